@@ -1,0 +1,98 @@
+-- A test that picks at most one number of each block: what it selects, block by block. Bits of a check and checks of a bit are
+-- both of this kind. Assumes nothing.
+use Prim.Native.Nat.{ℕ, zero, suc, _+_, _*_, _≤_, _<_}
+use mathlib.Core.Path.{_≡_, refl, sym, ap, ap₂, _∙_}
+use mathlib.Core.Bool.{Bool, true, false, cond}
+use mathlib.Core.List.{List, [], _∷_, _++_}
+use mathlib.Core.Option.{Option, none, some}
+use native.Mathlib.Omega.{arith}
+use native.Mathlib.Nat.{suc-mul, zero-mul}
+use borrow.Author.Tests.{eq-eqb, ne-eqb}
+use lib.Dec.{eqb, eqb·suc-suc}
+use lib.ListN.{length}
+use Rattle.graph.specs.Count.{range, below, select, one, count}
+use Rattle.graph.proofs.Count.{range-append, select-append}
+
+-- the number that a block has, if any
+abbrev pub picked : Option ℕ → Bool
+picked none = false
+picked (some x) = true
+
+abbrev pub hit : Option ℕ → ℕ → Bool
+hit none z = false
+hit (some x) z = eqb x z
+
+abbrev put : Option ℕ → ℕ → List ℕ → List ℕ
+put none base l = l
+put (some x) base l = (base + x) ∷ l
+
+-- the numbers that the blocks of a list have, in order
+unfoldable pub gather : ℕ → (ℕ → Option ℕ) → List ℕ → List ℕ
+gather lift pick [] = []
+gather lift pick (j ∷ l) = put (pick j) (j * lift) (gather lift pick l)
+
+pub length-gather : (lift : ℕ) (pick : ℕ → Option ℕ) (l : List ℕ) → length (gather lift pick l) ≡ count (λ j. picked (pick j)) l
+unfolding gather count
+length-gather lift pick [] = refl
+length-gather lift pick (j ∷ l) = step (pick j) (length-gather lift pick l)
+  where
+    step : (o : Option ℕ) → length (gather lift pick l) ≡ count (λ j. picked (pick j)) l
+        → length (put o (j * lift) (gather lift pick l)) ≡ one (picked o) + count (λ j. picked (pick j)) l
+    step none e = omega arith
+    step (some x) e = omega arith
+
+module _ (f : ℕ → Bool) where
+  -- one block
+  select-none : (s n : ℕ) → ((z : ℕ) → z < n → f (s + z) ≡ false) → select f (range s n) ≡ []
+  unfolding select range
+  select-none s zero h = refl
+  select-none s (suc n) h = rw (here) (select-none (suc s) n (λ z k. ap f (let r : suc s + z ≡ s + suc z = omega arith in r) ∙ h (suc z) (omega arith)))
+    where
+      here : f s ≡ false
+      here = ap f (let r : s ≡ s + 0 = omega arith in r) ∙ h 0 (omega arith)
+
+  select-one : (s n x : ℕ) → x < n → ((z : ℕ) → z < n → f (s + z) ≡ eqb x z) → select f (range s n) ≡ (s + x) ∷ []
+  unfolding select range
+  select-one s zero x k h = absurd (omega arith)
+  select-one s (suc n) zero k h =
+      rw (ap f (let r : s ≡ s + 0 = omega arith in r) ∙ h 0 (omega arith))
+      (ap₂ (λ (y : ℕ) (l : List ℕ). y ∷ l) (let r : s ≡ s + 0 = omega arith in r)
+      (select-none (suc s) n (λ z i. ap f (let r : suc s + z ≡ s + suc z = omega arith in r) ∙ h (suc z) (omega arith) ∙ ne-eqb 0 (suc z) (λ e. omega arith))))
+  select-one s (suc n) (suc x) k h =
+      rw (ap f (let r : s ≡ s + 0 = omega arith in r) ∙ h 0 (omega arith) ∙ ne-eqb (suc x) 0 (λ e. omega arith))
+      (select-one (suc s) n x (omega arith) (λ z i. ap f (let r : suc s + z ≡ s + suc z = omega arith in r) ∙ h (suc z) (omega arith) ∙ eqb·suc-suc x z)
+      ∙ ap (λ (y : ℕ). y ∷ []) (let r : suc s + x ≡ s + suc x = omega arith in r))
+
+  module _ (lift : ℕ) (pick : ℕ → Option ℕ) where
+    -- the test picks in block j what `pick` says, and no more
+    pub record Picks (j : ℕ) : Type 0 where
+      pub low : (x : ℕ) → pick j ≡ some x → x < lift
+      pub tests : (z : ℕ) → z < lift → f (j * lift + z) ≡ hit (pick j) z
+
+    select-block : (j : ℕ) → Picks j → select f (range (j * lift) lift) ≡ put (pick j) (j * lift) []
+    select-block j p = step (pick j) refl
+      where
+        step : (o : Option ℕ) → pick j ≡ o → select f (range (j * lift) lift) ≡ put o (j * lift) []
+        step none e = select-none (j * lift) lift (λ z h. p .tests z h ∙ ap (λ (o : Option ℕ). hit o z) e)
+        step (some x) e = select-one (j * lift) lift x (p .low x e) (λ z h. p .tests z h ∙ ap (λ (o : Option ℕ). hit o z) e)
+
+    put-append : (o : Option ℕ) (base : ℕ) (l : List ℕ) → put o base [] ++ l ≡ put o base l
+    put-append none base l = refl
+    put-append (some x) base l = refl
+
+    select-blocks : (s n : ℕ) → ((j : ℕ) → s ≤ j → j < s + n → Picks j) → select f (range (s * lift) (n * lift)) ≡ gather lift pick (range s n)
+    unfolding gather range select
+    select-blocks s zero p = ap (λ (k : ℕ). select f (range (s * lift) k)) (zero-mul lift)
+    select-blocks s (suc n) p =
+        ap (λ (k : ℕ). select f (range (s * lift) k)) (let r : suc n * lift ≡ lift + n * lift = omega (arith, suc-mul n lift) in r)
+        ∙ ap (select f) (range-append (s * lift) lift (n * lift))
+        ∙ select-append f (range (s * lift) lift) (range (s * lift + lift) (n * lift))
+        ∙ ap₂ (λ (a b : List ℕ). a ++ b) (select-block s (p s (omega arith) (omega arith)))
+        (ap (λ (k : ℕ). select f (range k (n * lift))) (let r : s * lift + lift ≡ suc s * lift = omega (arith, suc-mul s lift) in r)
+        ∙ select-blocks (suc s) n (λ j h k. p j (omega arith) (omega arith)))
+        ∙ put-append (pick s) (s * lift) (gather lift pick (range (suc s) n))
+
+    -- THE LAW: what the test selects among the numbers of n blocks
+    pub select-gather : (n : ℕ) → ((j : ℕ) → j < n → Picks j) → select f (below (n * lift)) ≡ gather lift pick (below n)
+    select-gather n p =
+        ap (λ (k : ℕ). select f (range k (n * lift))) (sym (zero-mul lift)) ∙ select-blocks 0 n (λ j h k. p j (omega arith))

@@ -1,0 +1,6 @@
+pub mod Numbers
+pub mod Blocks
+pub mod Rules
+pub mod Tanner
+pub mod Turning
+pub mod Cases

@@ -1,0 +1,63 @@
+-- Laws of refusals 1 to 6: their numbers rise, and none of them applies exactly where the plan is well formed.
+-- Assumes nothing.
+use Prim.Native.Nat.{ℕ, _*_, _≤_}
+use mathlib.Core.Path.{_≡_, refl, ap}
+use mathlib.Core.Logic.{_↔_}
+use mathlib.Core.Bool.{Bool, true, false, not, _||_}
+use mathlib.Core.List.{List}
+use mathlib.Core.Option.{none}
+use native.Mathlib.Omega.{arith}
+use lib.Dec.{ltb}
+use lib.IntN.{ℤ, pos}
+use lib.ListN.{length}
+use borrow.Author.Tests.{ltb-false, le-ltb, eqb-true, eq-eqb, not-false}
+use Rattle.refusal.specs.Lowest.{lowest, rising}
+use Rattle.refusal.proofs.Lowest.{NoneHolds, none-holds}
+use Rattle.refusal.proofs.Place.{somewhere-no, somewhere-none}
+use Rattle.exponent.specs.Plan.{invalidEntry}
+use Rattle.exponent.specs.Limits.{outside, planRules, WellFormed}
+
+-- computed, whatever the plan is
+pub rules-rise : (plan : List ℤ) (rows cols lift : ℕ) → rising (planRules plan rows cols lift) ≡ true
+unfolding planRules
+rules-rise plan rows cols lift = refl
+
+neither : (a b : Bool) → (a || b) ≡ false → (a ≡ false) × (b ≡ false)
+neither true b e = absurd (let z : _≡_ {A = ℕ} 0 1 = cc in omega arith)
+neither false b e = (refl, e)
+
+-- n is not outside of low to high exactly where it lies between them
+pub inside : (low high n : ℕ) → (outside low high n ≡ false) ↔ ((low ≤ n) × (n ≤ high))
+inside low high n = (
+  λ e. let (p, q) = neither (ltb n low) (ltb high n) e in (ltb-false n low p, ltb-false high n q),
+  λ h. rw (le-ltb n low (h .0)) (le-ltb high n (h .1)),
+)
+
+-- none of them applies exactly where the plan is well formed
+pub accepted : (plan : List ℤ) (rows cols lift : ℕ) → (lowest (planRules plan rows cols lift) ≡ none) ↔ WellFormed plan rows cols lift
+unfolding planRules
+accepted plan rows cols lift = (λ e. well (none-holds (planRules plan rows cols lift) .0 e), λ w. none-holds (planRules plan rows cols lift) .1 (none-of w))
+  where
+    well : NoneHolds (planRules plan rows cols lift) → WellFormed plan rows cols lift
+    well (r, (c, (l, (b, (w, (p, _)))))) =
+        record {
+          some-rows = inside 1 192 rows .0 r .0;
+          few-rows = inside 1 192 rows .0 r .1;
+          some-cols = inside 1 512 cols .0 c .0;
+          few-cols = inside 1 512 cols .0 c .1;
+          some-lift = inside 1 4096 lift .0 l .0;
+          small-lift = inside 1 4096 lift .0 l .1;
+          few-bits = ltb-false 65536 (cols * lift) b;
+          whole = eqb-true (length plan) (rows * cols) (not-false _ w);
+          entries = somewhere-no (invalidEntry lift) (pos 0) plan p;
+        }
+
+    none-of : WellFormed plan rows cols lift → NoneHolds (planRules plan rows cols lift)
+    none-of w =
+        let r = inside 1 192 rows .1 (w .some-rows, w .few-rows) in
+        let c = inside 1 512 cols .1 (w .some-cols, w .few-cols) in
+        let l = inside 1 4096 lift .1 (w .some-lift, w .small-lift) in
+        let b = le-ltb 65536 (cols * lift) (w .few-bits) in
+        let q = ap not (eq-eqb (length plan) (rows * cols) (w .whole)) in
+        let p = somewhere-none (invalidEntry lift) (pos 0) plan (w .entries) in
+        (r, (c, (l, (b, (q, (p, tt))))))

@@ -1,0 +1,4 @@
+pub mod Plan
+pub mod Limits
+pub mod Position
+pub mod Tanner

@@ -1,0 +1,56 @@
+ghost use mathlib.Core.Path.{_≡_};
+ghost use Prim.Native.Nat.{_+_, _*_, _<_};
+ghost use lib.ListN.{length};
+ghost use Rattle.exponent.specs.Plan.{shiftBlock, entryAt, blockAt, isInvalid};
+
+// A block of the matrix: the zero block (document 01: empty), the identity shifted right (filled), or an entry that is neither.
+pub enum Block {
+    Zero,
+    Shift(usize),
+    Invalid,
+}
+
+// A shift, which is to be below the lift.
+fn shift_block(e: usize, lift: usize) -> Block
+    ensures { λ r. ⌜ r ≡ shiftBlock lift e ⌝ }
+{
+    if e < lift {
+        Block::Shift(e)
+    } else {
+        Block::Invalid
+    }
+}
+
+// The entry at a place of the list. No other function reads a signed number.
+pub fn entry_at(plan: &[i16], lift: usize, place: usize) -> Block
+    requires { ⌜ place < length (now plan) ⌝ }
+    ensures { λ r. ⌜ r ≡ entryAt (now (plan .entry)) lift place ⌝ }
+{
+    let e = plan[place];
+    if e >= 0 {
+        return shift_block(e as usize, lift);
+    }
+    if e >= -1 {
+        return Block::Zero;
+    }
+    Block::Invalid
+}
+
+// The block in row i and column j.
+pub fn block_at(plan: &[i16], cols: usize, lift: usize, i: usize, j: usize) -> Block
+    requires { ⌜ i * cols + j < length (now plan) ⌝ }
+    ensures { λ r. ⌜ r ≡ blockAt (now (plan .entry)) cols lift i j ⌝ }
+{
+    entry_at(plan, lift, i * cols + j)
+}
+
+// Whether an entry is neither a zero block nor a shift.
+pub fn is_invalid(b: Block) -> bool
+    ensures { λ r. ⌜ r ≡ isInvalid b ⌝ }
+{
+    match b {
+        Block::Zero => false,
+        Block::Shift(_) => false,
+        Block::Invalid => true,
+    }
+}

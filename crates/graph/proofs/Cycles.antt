@@ -1,0 +1,151 @@
+-- From a closed walk to a simple cycle as lists of checks and bits. Assumes nothing.
+use Prim.Native.Nat.{ℕ, zero, suc, _+_, _*_, _≤_, _<_, pred}
+use mathlib.Core.Path.{_≡_, refl, sym, ap, subst, _∙_}
+use mathlib.Core.Logic.{_⊎_, inl, inr, _≢_}
+use mathlib.Core.List.{List, [], _∷_, _++_}
+use native.Mathlib.Omega.{arith}
+use lib.ListN.{length, getD, length-append}
+use Rattle.graph.proofs.Lists.{Mem, Nodup, last, nodup-turn, last-append, nodup-getD}
+use Rattle.graph.specs.Graph.{Bipartite, Joined}
+use Rattle.graph.specs.Girth.{SimpleCycle, Passes}
+use Rattle.graph.proofs.Walks.{Node, check, bit, Adj, Walk, Cycle, walk-left, last-adj}
+
+checks-of : List Node → List ℕ
+checks-of [] = []
+checks-of (check c ∷ l) = c ∷ checks-of l
+checks-of (bit b ∷ l) = checks-of l
+
+bits-of : List Node → List ℕ
+bits-of [] = []
+bits-of (check c ∷ l) = bits-of l
+bits-of (bit b ∷ l) = b ∷ bits-of l
+
+mem-checks : (c : ℕ) (l : List Node) → Mem c (checks-of l) → Mem (check c) l
+unfolding checks-of
+mem-checks c [] m = m
+mem-checks c (check d ∷ l) (inl e) = inl (ap check e)
+mem-checks c (check d ∷ l) (inr m) = inr (mem-checks c l m)
+mem-checks c (bit b ∷ l) m = inr (mem-checks c l m)
+
+mem-bits : (b : ℕ) (l : List Node) → Mem b (bits-of l) → Mem (bit b) l
+unfolding bits-of
+mem-bits b [] m = m
+mem-bits b (bit d ∷ l) (inl e) = inl (ap bit e)
+mem-bits b (bit d ∷ l) (inr m) = inr (mem-bits b l m)
+mem-bits b (check c ∷ l) m = inr (mem-bits b l m)
+
+nodup-checks : (l : List Node) → Nodup l → Nodup (checks-of l)
+unfolding checks-of
+nodup-checks [] d = tt
+nodup-checks (check c ∷ l) d = (λ m. d .0 (mem-checks c l m), nodup-checks l (d .1))
+nodup-checks (bit b ∷ l) d = nodup-checks l (d .1)
+
+nodup-bits : (l : List Node) → Nodup l → Nodup (bits-of l)
+unfolding bits-of
+nodup-bits [] d = tt
+nodup-bits (bit b ∷ l) d = (λ m. d .0 (mem-bits b l m), nodup-bits l (d .1))
+nodup-bits (check c ∷ l) d = nodup-bits l (d .1)
+
+both : (l : List Node) → length l ≡ length (checks-of l) + length (bits-of l)
+unfolding checks-of bits-of
+both [] = refl
+both (check c ∷ l) = omega (arith, both l)
+both (bit b ∷ l) = omega (arith, both l)
+
+-- the checks cs and the bits bs in turn, and then the check z
+abbrev pub front : List ℕ → ℕ → ℕ
+front [] z = z
+front (c ∷ cs) z = c
+
+unfoldable pub Ring : Bipartite → ℕ → List ℕ → List ℕ → Type 0
+Ring G z [] [] = Unit {0}
+Ring G z [] (b ∷ bs) = ⊥
+Ring G z (c ∷ cs) [] = ⊥
+Ring G z (c ∷ cs) (b ∷ bs) = Joined G c b × Joined G (front cs z) b × Ring G z cs bs
+
+ring-of : (G : Bipartite) (z c : ℕ) (l : List Node) → Walk G (check c ∷ l) → Adj G (last (check c) l) (check z) → Ring G z (c ∷ checks-of l) (bits-of l)
+unfolding Adj Ring checks-of bits-of
+ring-of G z c [] w a = absurd a
+ring-of G z c (check d ∷ l) w a = absurd (w .0 .0)
+ring-of G z c (bit b ∷ []) w a = (w .0 .0, a, tt)
+ring-of G z c (bit b ∷ bit d ∷ l) w a = absurd (w .1 .0 .0)
+ring-of G z c (bit b ∷ check d ∷ l) w a = (w .0 .0, w .1 .0 .0, ring-of G z d l (w .1 .1) a)
+
+module _ (G : Bipartite) (z : ℕ) where
+  ring-length : (cs bs : List ℕ) → Ring G z cs bs → length cs ≡ length bs
+  unfolding Ring
+  ring-length [] [] r = refl
+  ring-length [] (b ∷ bs) r = absurd r
+  ring-length (c ∷ cs) [] r = absurd r
+  ring-length (c ∷ cs) (b ∷ bs) r = ap suc (ring-length cs bs (r .2))
+
+  ring-forth : (cs bs : List ℕ) → Ring G z cs bs → (k : ℕ) → k < length cs → Joined G (getD cs k 0) (getD bs k 0)
+  unfolding Ring
+  ring-forth [] bs r k h = absurd (omega arith)
+  ring-forth (c ∷ cs) [] r k h = absurd r
+  ring-forth (c ∷ cs) (b ∷ bs) r zero h = r .0
+  ring-forth (c ∷ cs) (b ∷ bs) r (suc k) h = ring-forth cs bs (r .2) k (omega arith)
+
+  ring-back : (cs bs : List ℕ) → Ring G z cs bs → (k : ℕ) → suc k < length cs → Joined G (getD cs (suc k) 0) (getD bs k 0)
+  unfolding Ring
+  ring-back [] bs r k h = absurd (omega arith)
+  ring-back (c ∷ cs) [] r k h = absurd r
+  ring-back (c ∷ []) (b ∷ bs) r k h = absurd (omega arith)
+  ring-back (c ∷ d ∷ cs) (b ∷ bs) r zero h = r .1
+  ring-back (c ∷ d ∷ cs) (b ∷ bs) r (suc k) h = ring-back (d ∷ cs) bs (r .2) k (omega arith)
+
+  ring-closes : (c : ℕ) (cs bs : List ℕ) → Ring G z (c ∷ cs) bs → Joined G z (getD bs (length cs) 0)
+  unfolding Ring
+  ring-closes c cs [] r = absurd r
+  ring-closes c [] (b ∷ bs) r = r .1
+  ring-closes c (d ∷ cs) (b ∷ bs) r = ring-closes d cs bs (r .2)
+
+-- what a short cycle of the graph gives: a simple cycle as the document writes it
+pub record Short (G : Bipartite) (m : ℕ) : Type 0 where
+  pub n : ℕ
+  pub cs : List ℕ
+  pub bs : List ℕ
+  pub cycle : SimpleCycle G n cs bs
+  pub fits : 2 * n ≤ m
+
+module _ (G : Bipartite) where
+  -- a closed walk that starts at the check c
+  from-check : (m c : ℕ) (l : List Node) → Walk G (check c ∷ l) → Adj G (last (check c) l) (check c) → Nodup (check c ∷ l) → 3 ≤ length (check c ∷ l) → length (check c ∷ l) ≤ m → Short G m
+  unfolding checks-of bits-of
+  from-check m c l w a d long short =
+      let cs : List ℕ = c ∷ checks-of l in
+      let bs : List ℕ = bits-of l in
+      let r : Ring G c cs bs = ring-of G c c l w a in
+      let e : length cs ≡ length bs = ring-length G c cs bs r in
+      let s : length (check c ∷ l) ≡ length cs + length bs = both (check c ∷ l) in
+      record {
+        n = length cs;
+        cs = cs;
+        bs = bs;
+        cycle = record {
+          least = omega arith;
+          n-checks = refl;
+          n-bits = sym e;
+          forth = ring-forth G c cs bs r;
+          back = ring-back G c cs bs r;
+          closes = ring-closes G c c (checks-of l) bs r;
+          checks-differ = nodup-getD cs 0 (nodup-checks (check c ∷ l) d);
+          bits-differ = λ i j h k. nodup-getD bs 0 (nodup-bits (check c ∷ l) d) i j h (omega arith);
+        };
+        fits = omega arith;
+      }
+
+  pub short-cycle : {m : ℕ} → Cycle G m → Short G m
+  unfolding Adj
+  short-cycle {m} y = go (y .start) (y .rest) (y .closed) (y .distinct) (y .long) (y .short)
+    where
+      go : (u : Node) (l : List Node) → Walk G (u ∷ l ++ u ∷ []) → Nodup (u ∷ l) → 3 ≤ length (u ∷ l) → length (u ∷ l) ≤ m → Short G m
+      go (check c) l w d h k = from-check m c l (walk-left G (check c ∷ l) (check c ∷ []) w) (last-adj G (check c) l (check c) [] w) d h k
+      go (bit b) [] w d h k = absurd (omega arith)
+      go (bit b) (bit a ∷ l) w d h k = absurd (w .0 .0)
+      go (bit b) (check c ∷ l) w d h k = from-check m c (l ++ bit b ∷ []) (w .1) (rw last-append (w .0 .0)) (nodup-turn (bit b) (check c ∷ l) d) (rw length-append (omega arith)) (rw length-append (omega arith))
+
+  -- a graph that passes t has no cycle of fewer than t edges
+  pub passes-none : (t m : ℕ) → Passes G t → m < t → Cycle G m → ⊥
+  unfolding Passes
+  passes-none t m p h y = let s : Short G m = short-cycle y in omega (arith, p (s .n) (s .cs) (s .bs) (s .cycle))

@@ -1,0 +1,13 @@
+pub mod Decide
+pub mod Lists
+pub mod Count
+pub mod Neighbours
+pub mod Walks
+pub mod Cycles
+pub mod Closed
+pub mod Tree
+pub mod Cases
+pub mod Peeling
+pub mod Filling
+pub mod Images
+pub mod Recovery

@@ -1,0 +1,33 @@
+-- Lists of numbers: those below a bound, those that pass a test, and how many pass. A set of bits or checks is a test ℕ → Bool.
+use Prim.Native.Nat.{ℕ, zero, suc, _+_}
+use mathlib.Core.Bool.{Bool, true, false, cond, _||_}
+use mathlib.Core.List.{List, [], _∷_}
+use lib.Dec.{eqb}
+
+-- start, start + 1, …: n numbers
+unfoldable pub range : ℕ → ℕ → List ℕ
+range start zero = []
+range start (suc n) = start ∷ range (suc start) n
+
+-- the numbers below n, rising
+abbrev pub below : ℕ → List ℕ
+below n = range 0 n
+
+-- the members of a list that pass a test, in their order
+unfoldable pub select : (ℕ → Bool) → List ℕ → List ℕ
+select test [] = []
+select test (x ∷ l) = let rest = select test l in cond (test x) (x ∷ rest) rest
+
+abbrev pub one : Bool → ℕ
+one true = 1
+one false = 0
+
+-- how many members of a list pass a test
+unfoldable pub count : (ℕ → Bool) → List ℕ → ℕ
+count test [] = 0
+count test (x ∷ l) = one (test x) + count test l
+
+-- x is a member of a list
+unfoldable pub member : ℕ → List ℕ → Bool
+member x [] = false
+member x (y ∷ l) = eqb x y || member x l

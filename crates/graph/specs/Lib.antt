@@ -1,0 +1,6 @@
+pub mod Count
+pub mod Graph
+pub mod Girth
+pub mod Stopping
+pub mod Erasure
+pub mod Filling

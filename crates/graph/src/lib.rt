@@ -1,0 +1,1 @@
+// Theory only: definitions are in specs/, their laws in proofs/.

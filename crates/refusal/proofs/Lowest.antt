@@ -1,0 +1,147 @@
+-- Laws of `lowest`: in a list whose numbers rise, it is the refusal that applies and than which none with a lower number does.
+-- Assumes nothing.
+use Prim.Native.Nat.{ℕ, _≤_, _<_}
+use mathlib.Core.Path.{_≡_, refl, sym, ap, _∙_}
+use mathlib.Core.Logic.{_↔_, _⊎_, inl, inr}
+use mathlib.Core.Bool.{Bool, true, false, cond, _&&_}
+use mathlib.Core.List.{List, [], _∷_, _++_}
+use mathlib.Core.Option.{Option, none, some}
+use native.Mathlib.Omega.{arith}
+use lib.Dec.{ltb}
+use borrow.Author.Tests.{ltb-true}
+use Rattle.refusal.specs.declared.Refusal.{Refusal}
+use Rattle.refusal.specs.Number.{number}
+use Rattle.refusal.specs.Lowest.{Rule, refuse, lowest, rise-from, rising, In, here, later, LowestThat}
+
+none-some : {A : Type 0} (x : A) → none ≡ some x → ⊥
+none-some x e = let z : _≡_ {A = ℕ} 0 1 = cc in omega arith
+
+some-same : {A : Type 0} (x y : A) → some x ≡ some y → x ≡ y
+some-same x y e = cc
+
+both : (a b : Bool) → (a && b) ≡ true → (a ≡ true) × (b ≡ true)
+both true b e = (refl, e)
+both false b e = absurd (let z : _≡_ {A = ℕ} 0 1 = cc in omega arith)
+
+-- the numbers of what is listed lie above n
+above : (n : ℕ) (rules : List Rule) → rise-from n rules ≡ true → (rule : Rule) → In rule rules → n < number (rule .refusal)
+above n l e rule (here {rules = rules}) =
+    ltb-true n (number (rule .refusal)) (both (ltb n (number (rule .refusal))) (rise-from (number (rule .refusal)) rules) e .0)
+above n l e rule (later {other = other} {rules = rules} i) =
+    let (p, q) = both (ltb n (number (other .refusal))) (rise-from (number (other .refusal)) rules) e in
+    omega (arith, ltb-true n (number (other .refusal)) p, above (number (other .refusal)) rules q rule i)
+
+first : (test : Bool) (r s : Refusal) (rest : Option Refusal) → cond test (some r) rest ≡ some s → ((test ≡ true) × (r ≡ s)) ⊎ ((test ≡ false) × (rest ≡ some s))
+first true r s rest e = inl (refl, some-same r s e)
+first false r s rest e = inr (refl, e)
+
+none-first : (test : Bool) (r : Refusal) (rest : Option Refusal) → cond test (some r) rest ≡ none → (test ≡ false) × (rest ≡ none)
+none-first true r rest e = absurd (none-some r (sym e))
+none-first false r rest e = (refl, e)
+
+is-rule : (rule : Rule) (test : Bool) (r : Refusal) → rule .applies ≡ test → rule .refusal ≡ r → rule ≡ refuse r test
+is-rule rule test r p q = λ i. record { applies = p i; refusal = q i }
+
+-- one rule at a time
+pub lowest-here : (test : Bool) (r : Refusal) (rules : List Rule) → test ≡ true → lowest (refuse r test ∷ rules) ≡ some r
+unfolding lowest
+lowest-here test r rules e = rw e
+
+pub lowest-next : (test : Bool) (r : Refusal) (rules : List Rule) → test ≡ false → lowest (refuse r test ∷ rules) ≡ lowest rules
+unfolding lowest
+lowest-next test r rules e = rw e
+
+-- some rules, and then others
+pub lowest-accepted : (rules others : List Rule) → lowest rules ≡ none → lowest (rules ++ others) ≡ lowest others
+unfolding lowest
+lowest-accepted [] others e = refl
+lowest-accepted (rule ∷ rules) others e =
+    let (p, q) = none-first (rule .applies) (rule .refusal) (lowest rules) e in
+    rw p (lowest-accepted rules others q)
+
+pub lowest-refused : (rules others : List Rule) (r : Refusal) → lowest rules ≡ some r → lowest (rules ++ others) ≡ some r
+unfolding lowest
+lowest-refused [] others r e = absurd (none-some r e)
+lowest-refused (rule ∷ rules) others r e = step (first (rule .applies) (rule .refusal) r (lowest rules) e) (lowest-refused rules others r)
+  where
+    step : ((rule .applies ≡ true) × (rule .refusal ≡ r)) ⊎ ((rule .applies ≡ false) × (lowest rules ≡ some r))
+        → (lowest rules ≡ some r → lowest (rules ++ others) ≡ some r) → cond (rule .applies) (some (rule .refusal)) (lowest (rules ++ others)) ≡ some r
+    step (inl (p, q)) more = rw (p, q)
+    step (inr (p, q)) more = rw p (more q)
+
+-- what `lowest` gives applies
+lowest-applies : (rules : List Rule) (r : Refusal) → lowest rules ≡ some r → In (refuse r true) rules
+unfolding lowest
+lowest-applies [] r e = absurd (none-some r e)
+lowest-applies (rule ∷ rules) r e = step (first (rule .applies) (rule .refusal) r (lowest rules) e) (lowest-applies rules r)
+  where
+    step : ((rule .applies ≡ true) × (rule .refusal ≡ r)) ⊎ ((rule .applies ≡ false) × (lowest rules ≡ some r))
+        → (lowest rules ≡ some r → In (refuse r true) rules) → In (refuse r true) (rule ∷ rules)
+    step (inl (p, q)) more = rw (is-rule rule true r p q) here
+    step (inr (p, q)) more = later (more q)
+
+-- where it gives nothing, nothing applies
+none-applies : (rules : List Rule) → lowest rules ≡ none → (r : Refusal) → In (refuse r true) rules → ⊥
+unfolding lowest
+none-applies l e r (here {rules = rules}) = none-some r (sym e)
+none-applies l e r (later {other = other} {rules = rules} i) =
+    none-applies rules (none-first (other .applies) (other .refusal) (lowest rules) e .1) r i
+
+-- no listed refusal that applies has a lower number
+lowest-least : (n : ℕ) (rules : List Rule) → rise-from n rules ≡ true → (r : Refusal) → lowest rules ≡ some r
+    → (s : Refusal) → In (refuse s true) rules → number r ≤ number s
+unfolding lowest
+lowest-least n l e r h s (here {rules = rules}) = let q = some-same s r h in rw q (omega arith)
+lowest-least n l e r h s (later {other = other} {rules = rules} i) =
+    let (p, q) = both (ltb n (number (other .refusal))) (rise-from (number (other .refusal)) rules) e in
+    step q (first (other .applies) (other .refusal) r (lowest rules) h) (λ k. lowest-least (number (other .refusal)) rules q r k s i)
+  where
+    step : rise-from (number (other .refusal)) rules ≡ true
+        → ((other .applies ≡ true) × (other .refusal ≡ r)) ⊎ ((other .applies ≡ false) × (lowest rules ≡ some r))
+        → (lowest rules ≡ some r → number r ≤ number s) → number r ≤ number s
+    step q (inl (a, b)) more = rw (← b) (omega (arith, above (number (other .refusal)) rules q (refuse s true) i))
+    step q (inr (a, b)) more = more b
+
+-- what applies, and than which nothing lower applies, is what `lowest` gives
+lowest-found : (n : ℕ) (rules : List Rule) → rise-from n rules ≡ true → (r : Refusal) → In (refuse r true) rules
+    → ((s : Refusal) → In (refuse s true) rules → number r ≤ number s) → lowest rules ≡ some r
+unfolding lowest
+lowest-found n l e r (here {rules = rules}) least = refl
+lowest-found n l e r (later {other = other} {rules = rules} i) least =
+    let q = both (ltb n (number (other .refusal))) (rise-from (number (other .refusal)) rules) e .1 in
+    step q (other .applies) refl (lowest-found (number (other .refusal)) rules q r i (λ s k. least s (later k)))
+  where
+    step : rise-from (number (other .refusal)) rules ≡ true → (test : Bool) → other .applies ≡ test → lowest rules ≡ some r
+        → cond test (some (other .refusal)) (lowest rules) ≡ some r
+    step q true a more =
+        let lower = least (other .refusal) (rw (is-rule other true (other .refusal) a refl) here) in
+        absurd (omega (arith, above (number (other .refusal)) rules q (refuse r true) i))
+    step q false a more = more
+
+-- THE LAW: in a list whose numbers rise, `lowest` gives r exactly where r applies and none with a lower number does
+pub lowest-exactly : (rules : List Rule) → rising rules ≡ true → (r : Refusal) → (lowest rules ≡ some r) ↔ LowestThat rules r
+lowest-exactly rules e r = (
+  λ h. record { applies = lowest-applies rules r h; none-lower = lowest-least 0 rules e r h },
+  λ h. lowest-found 0 rules e r (h .applies) (h .none-lower),
+)
+
+-- and it gives nothing exactly where nothing applies
+pub lowest-none : (rules : List Rule) → (lowest rules ≡ none) ↔ ((r : Refusal) → In (refuse r true) rules → ⊥)
+lowest-none rules = (none-applies rules, λ h. step h (lowest rules) refl)
+  where
+    step : ((r : Refusal) → In (refuse r true) rules → ⊥) → (o : Option Refusal) → lowest rules ≡ o → lowest rules ≡ none
+    step h none e = e
+    step h (some r) e = absurd (h r (lowest-applies rules r e))
+
+-- the same rule by rule
+abbrev pub NoneHolds : List Rule → Type 0
+NoneHolds [] = Unit {0}
+NoneHolds (rule ∷ rules) = (rule .applies ≡ false) × NoneHolds rules
+
+pub none-holds : (rules : List Rule) → (lowest rules ≡ none) ↔ NoneHolds rules
+unfolding lowest
+none-holds [] = (λ e. tt, λ h. refl)
+none-holds (rule ∷ rules) = (
+  λ e. let (p, q) = none-first (rule .applies) (rule .refusal) (lowest rules) e in (p, none-holds rules .0 q),
+  λ h. rw (h .0) (none-holds rules .1 (h .1)),
+)

@@ -1,0 +1,42 @@
+-- The lowest numbered refusal that applies (document 01, "Turned away"). A call lists its refusals in rising order of number,
+-- each with the test that says whether it applies; the answer is the first whose test holds.
+use Prim.Native.Nat.{ℕ, _≤_, _<_}
+use mathlib.Core.Path.{_≡_}
+use mathlib.Core.Bool.{Bool, true, false, cond, _&&_}
+use mathlib.Core.List.{List, [], _∷_}
+use mathlib.Core.Option.{Option, none, some}
+use lib.Dec.{ltb}
+use Rattle.refusal.specs.declared.Refusal.{Refusal}
+use Rattle.refusal.specs.Number.{number}
+
+pub record Rule : Type 0 where
+  pub applies : Bool
+  pub refusal : Refusal
+
+-- the refusal r, where the test holds
+abbrev pub refuse : Refusal → Bool → Rule
+refuse r test = record { applies = test; refusal = r }
+
+-- the refusal of the first rule that applies
+unfoldable pub lowest : List Rule → Option Refusal
+lowest [] = none
+lowest (rule ∷ rules) = let later = lowest rules in cond (rule .applies) (some (rule .refusal)) later
+
+-- the numbers of the rules rise from n on
+abbrev pub rise-from : ℕ → List Rule → Bool
+rise-from n [] = true
+rise-from n (rule ∷ rules) = ltb n (number (rule .refusal)) && rise-from (number (rule .refusal)) rules
+
+-- computed for the list of each call, whatever its tests and values are
+abbrev pub rising : List Rule → Bool
+rising rules = rise-from 0 rules
+
+-- rule stands in the list
+pub data In (rule : Rule) : List Rule → Type 0 where
+  here : {rules : List Rule} → In rule (rule ∷ rules)
+  later : {other : Rule} {rules : List Rule} → In rule rules → In rule (other ∷ rules)
+
+-- r applies, and none with a lower number does
+pub record LowestThat (rules : List Rule) (r : Refusal) : Type 0 where
+  pub applies : In (refuse r true) rules
+  pub none-lower : (s : Refusal) → In (refuse s true) rules → number r ≤ number s
