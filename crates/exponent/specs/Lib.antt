@@ -2,3 +2,4 @@ pub mod Plan
 pub mod Limits
 pub mod Position
 pub mod Tanner
+pub mod Index

@@ -1,7 +1,7 @@
 ghost use mathlib.Core.Path.{_≡_};
 ghost use Prim.Native.Nat.{_+_, _*_, _<_};
 ghost use lib.ListN.{length};
-ghost use Rattle.exponent.specs.Plan.{shiftBlock, entryAt, blockAt, isInvalid};
+ghost use Rattle.exponent.specs.Plan.{shiftBlock, entryAt, blockAt, isInvalid, filled};
 
 // A block of the matrix: the zero block (document 01: empty), the identity shifted right (filled), or an entry that is neither.
 pub enum Block {
@@ -52,5 +52,16 @@ pub fn is_invalid(b: Block) -> bool
         Block::Zero => false,
         Block::Shift(_) => false,
         Block::Invalid => true,
+    }
+}
+
+// Whether a block is filled.
+pub fn is_filled(b: Block) -> bool
+    ensures { λ r. ⌜ r ≡ filled b ⌝ }
+{
+    match b {
+        Block::Zero => false,
+        Block::Shift(_) => true,
+        Block::Invalid => false,
     }
 }
