@@ -5,17 +5,19 @@ use mathlib.Core.Path.{_≡_, refl, ap}
 use mathlib.Core.Logic.{_↔_}
 use mathlib.Core.Bool.{Bool, true, false, not, _||_}
 use mathlib.Core.List.{List}
-use mathlib.Core.Option.{none}
+use mathlib.Core.Option.{Option, none, some}
 use native.Mathlib.Omega.{arith}
 use lib.Dec.{ltb}
 use lib.IntN.{ℤ, pos}
 use lib.ListN.{length}
 use borrow.Author.Tests.{ltb-false, le-ltb, eqb-true, eq-eqb, not-false}
+use Rattle.refusal.specs.declared.Refusal.{Refusal}
 use Rattle.refusal.specs.Lowest.{lowest, rising}
 use Rattle.refusal.proofs.Lowest.{NoneHolds, none-holds}
 use Rattle.refusal.proofs.Place.{somewhere-no, somewhere-none}
+use Rattle.exponent.specs.declared.Validity.the-variants.{Valid, Refused}
 use Rattle.exponent.specs.Plan.{invalidEntry}
-use Rattle.exponent.specs.Limits.{outside, planRules, WellFormed}
+use Rattle.exponent.specs.Limits.{outside, planRules, validity, WellFormed}
 
 -- computed, whatever the plan is
 pub rules-rise : (plan : List ℤ) (rows cols lift : ℕ) → rising (planRules plan rows cols lift) ≡ true
@@ -61,3 +63,12 @@ accepted plan rows cols lift = (λ e. well (none-holds (planRules plan rows cols
         let q = ap not (eq-eqb (length plan) (rows * cols) (w .whole)) in
         let p = somewhere-none (invalidEntry lift) (pos 0) plan (w .entries) in
         (r, (c, (l, (b, (q, (p, tt))))))
+
+-- what an answer of `validate` says of the refusals
+pub valid-none : (o : Option Refusal) → validity o ≡ Valid → o ≡ none
+valid-none none e = refl
+valid-none (some r) e = absurd (let z : _≡_ {A = ℕ} 0 1 = cc in omega arith)
+
+pub refused-some : (o : Option Refusal) (r : Refusal) → validity o ≡ Refused r → o ≡ some r
+refused-some none r e = absurd (let z : _≡_ {A = ℕ} 0 1 = cc in omega arith)
+refused-some (some s) r e = let q : s ≡ r = cc in ap some q

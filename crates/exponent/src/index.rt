@@ -69,10 +69,10 @@ pub fn build(plan: &[i16], shape: Shape, down: &mut [u16], along: &mut [u16])
 }
 
 // What an index says at (i, j).
-pub fn next(index: &[u16], shape: Shape, i: usize, j: usize) -> usize
-    requires { ⌜ (i < shape .rows) × (j < shape .cols) × (shape .rows * shape .cols ≤ length (now index)) × (shape .rows ≤ 192) × (shape .cols ≤ 512) ⌝ }
-    ensures { λ r. ⌜ r ≡ getD (now (index .entry)) (i * shape .cols + j) 0 ⌝ }
+pub fn next(index: &[u16], cols: usize, i: usize, j: usize) -> usize
+    requires { ⌜ i * cols + j < length (now index) ⌝ }
+    ensures { λ r. ⌜ r ≡ getD (now (index .entry)) (i * cols + j) 0 ⌝ }
 {
-    let place = i * shape.cols + j;
+    let place = i * cols + j;
     index[place] as usize
 }

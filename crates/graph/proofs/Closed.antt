@@ -1,15 +1,15 @@
 -- The other way: a simple cycle of lists is a closed non-backtracking walk, and a closed walk may start at any of its vertices.
 -- Assumes nothing.
-use Prim.Native.Nat.{ℕ, zero, suc, _+_, _*_, _≤_, _<_, pred}
+use Prim.Native.Nat.{ℕ, suc, _*_, _≤_, _<_, pred}
 use mathlib.Core.Path.{_≡_, refl, sym, ap, subst, _∙_}
 use mathlib.Core.Logic.{_⊎_, inl, inr, _≢_, _↔_}
 use mathlib.Core.List.{List, [], _∷_, _++_, append-assoc}
 use native.Mathlib.Omega.{arith}
 use native.Mathlib.Decide.{decLe}
-use lib.ListN.{length, getD, length-append, List·getD-append}
+use lib.ListN.{length, getD, length-append}
 use Rattle.graph.specs.Graph.{Bipartite, Joined}
 use Rattle.graph.specs.Girth.{SimpleCycle, Passes}
-use Rattle.graph.proofs.Lists.{Mem, Nodup, getD-nodup, nodup-turn, last, last-mem, last-append}
+use Rattle.graph.proofs.Lists.{Mem, Nodup, getD-nodup, nodup-turn, mem-append, place, last, last-mem, last-append}
 use Rattle.graph.proofs.Walks.{Node, check, bit, check-inj, bit-inj, check-not-bit, Adj, Walk, Apart, Cycle, fork}
 use Rattle.graph.proofs.Cycles.{passes-none, Ring, front}
 
@@ -43,6 +43,14 @@ weave-bit b (d ∷ cs) [] m = m
 weave-bit b (d ∷ cs) (a ∷ bs) (inl e) = absurd (check-not-bit d b (sym e))
 weave-bit b (d ∷ cs) (a ∷ bs) (inr (inl e)) = inl (bit-inj b a e)
 weave-bit b (d ∷ cs) (a ∷ bs) (inr (inr m)) = inr (weave-bit b cs bs m)
+
+bit-weave : (b : ℕ) (cs bs : List ℕ) → length cs ≡ length bs → Mem b bs → Mem (bit b) (weave cs bs)
+unfolding weave
+bit-weave b [] [] e m = m
+bit-weave b [] (a ∷ bs) e m = absurd (omega arith)
+bit-weave b (d ∷ cs) [] e m = absurd m
+bit-weave b (d ∷ cs) (a ∷ bs) e (inl h) = inr (inl (ap bit h))
+bit-weave b (d ∷ cs) (a ∷ bs) e (inr m) = inr (inr (bit-weave b cs bs (omega arith) m))
 
 weave-nodup : (cs bs : List ℕ) → Nodup cs → Nodup bs → Nodup (weave cs bs)
 unfolding weave
@@ -92,6 +100,13 @@ cycle-of G n (c ∷ d ∷ cs) (b ∷ bs) y =
       short = omega (arith, weave-length (d ∷ cs) bs (omega arith));
     }
 
+cycle-weave : (G : Bipartite) (n : ℕ) (cs bs : List ℕ) (y : SimpleCycle G n cs bs) → cycle-of G n cs bs y .start ∷ cycle-of G n cs bs y .rest ≡ weave cs bs
+unfolding cycle-of weave
+cycle-weave G n [] bs y = absurd (omega (arith, y .least, y .n-checks))
+cycle-weave G n (c ∷ []) bs y = absurd (omega (arith, y .least, y .n-checks))
+cycle-weave G n (c ∷ d ∷ cs) [] y = absurd (omega (arith, y .least, y .n-bits))
+cycle-weave G n (c ∷ d ∷ cs) (b ∷ bs) y = refl
+
 -- the verdict, in both forms
 pub passes-iff : (G : Bipartite) (t : ℕ) → Passes G t ↔ ((m : ℕ) → m < t → Cycle G m → ⊥)
 unfolding Passes
@@ -108,32 +123,45 @@ module _ (G : Bipartite) where
       same (y ∷ l) h = h
 
   -- the same cycle from its next vertex on
-  turned : {n : ℕ} (s x : Node) (l : List Node) → Walk G (s ∷ x ∷ l ++ s ∷ []) → Nodup (s ∷ x ∷ l) → 3 ≤ length (s ∷ x ∷ l) → length (s ∷ x ∷ l) ≤ n → Cycle G n
-  turned s x l w d h k =
-      record {
-        start = x;
-        rest = l ++ s ∷ [];
-        closed = rw append-assoc (walk-more x l s x (w .1) (w .0 .0) (λ e. d .1 .0 (rw e at (end l h))));
-        distinct = nodup-turn s (x ∷ l) d;
-        long = rw length-append (omega arith);
-        short = rw length-append (omega arith);
-      }
+  turned : {n : ℕ} (y : Cycle G n) → (z : Cycle G n) × (z .start ∷ z .rest ≡ y .rest ++ y .start ∷ [])
+  turned {n} y = go (y .start) (y .rest) (y .closed) (y .distinct) (y .long) (y .short)
     where
-      end : (l : List Node) → 3 ≤ length (s ∷ x ∷ l) → Mem (last x l) l
-      end [] h = absurd (omega arith)
-      end (y ∷ l) h = last-mem y l
+      end : (x : Node) (l : List Node) → 2 ≤ length (x ∷ l) → Mem (last x l) l
+      end x [] h = absurd (omega arith)
+      end x (v ∷ l) h = last-mem v l
 
-  -- a cycle may start at any of its vertices
-  pub turn-to : {n : ℕ} (k : ℕ) (y : Cycle G n) (d : Node) → k < length (y .start ∷ y .rest) → (z : Cycle G n) × (z .start ≡ getD (y .start ∷ y .rest) k d)
-  unfolding turned
-  turn-to zero y d h = (y, refl)
-  turn-to {n} (suc k) y d h = go (y .start) (y .rest) (y .closed) (y .distinct) (y .long) (y .short) h (λ z i. turn-to k z d i)
+      go : (s : Node) (r : List Node) → Walk G (s ∷ r ++ s ∷ []) → Nodup (s ∷ r) → 3 ≤ length (s ∷ r) → length (s ∷ r) ≤ n → (z : Cycle G n) × (z .start ∷ z .rest ≡ r ++ s ∷ [])
+      go s [] w d h k = absurd (omega arith)
+      go s (x ∷ l) w d h k = (
+        record {
+          start = x;
+          rest = l ++ s ∷ [];
+          closed = rw append-assoc (walk-more x l s x (w .1) (w .0 .0) (λ e. d .1 .0 (rw e at (end x l (omega arith)))));
+          distinct = nodup-turn s (x ∷ l) d;
+          long = rw length-append (omega arith);
+          short = rw length-append (omega arith);
+        },
+        refl,
+      )
+
+  turn-past : {n : ℕ} (p : List Node) (y : Cycle G n) (u : Node) (q : List Node) → y .start ∷ y .rest ≡ p ++ u ∷ q
+      → (z : Cycle G n) × (z .start ≡ u) × ((v : Node) → Mem v (z .start ∷ z .rest) → Mem v (y .start ∷ y .rest))
+  turn-past [] y u q e = (y, (cc), λ v m. m)
+  turn-past (x ∷ p) y u q e =
+      let (z, h) = turned y in
+      let r : y .rest ≡ p ++ u ∷ q = cc in
+      let (t, s, f) = turn-past p z u (q ++ y .start ∷ []) (h ∙ ap (λ (l : List Node). l ++ y .start ∷ []) r ∙ append-assoc p (u ∷ q) (y .start ∷ [])) in
+      (t, s, λ v m. back v (mem-append v (y .rest) (y .start ∷ []) (subst (Mem v) h (f v m))))
     where
-      go : (s : Node) (r : List Node) → Walk G (s ∷ r ++ s ∷ []) → Nodup (s ∷ r) → 3 ≤ length (s ∷ r) → length (s ∷ r) ≤ n → suc k < length (s ∷ r) → ((z : Cycle G n) → k < length (z .start ∷ z .rest) → (v : Cycle G n) × (v .start ≡ getD (z .start ∷ z .rest) k d)) → (v : Cycle G n) × (v .start ≡ getD r k d)
-      go s [] w e a b h rec = absurd (omega arith)
-      go s (x ∷ l) w e a b h rec =
-          let t : (v : Cycle G n) × (v .start ≡ getD (x ∷ l ++ s ∷ []) k d) = rec (turned s x l w e a b) (rw length-append (omega arith)) in
-          (t .0, t .1 ∙ List·getD-append (x ∷ l) (s ∷ []) d k (omega arith))
+      back : (v : Node) → Mem v (y .rest) ⊎ Mem v (y .start ∷ []) → Mem v (y .start ∷ y .rest)
+      back v (inl m) = inr m
+      back v (inr (inl h)) = inl h
+      back v (inr (inr h)) = absurd h
+
+  -- a cycle may start at any of its vertices, and passes the same ones
+  pub turn-to : {n : ℕ} (y : Cycle G n) (u : Node) → Mem u (y .start ∷ y .rest)
+      → (z : Cycle G n) × (z .start ≡ u) × ((v : Node) → Mem v (z .start ∷ z .rest) → Mem v (y .start ∷ y .rest))
+  turn-to y u m = let p = place u (y .start ∷ y .rest) (y .distinct) m in turn-past (p .before) y u (p .after) (p .whole)
 
 -- A closed non-backtracking walk from bit b: what a search from the bits looks for.
 pub record ClosedAt (G : Bipartite) (b : ℕ) (l : List Node) : Type 0 where
@@ -146,25 +174,31 @@ module _ (G : Bipartite) where
   closed-cycle b [] y = absurd (omega (arith, y .moves))
   closed-cycle b (v ∷ l) y = fork G (bit b) [] v l _ (tt, tt) (y .walk) tt (sym (y .back)) (omega arith)
 
-  cycle-closed : {n : ℕ} → Cycle G n → (b : ℕ) × (l : List Node) × ClosedAt G b l × (length l ≤ n)
-  unfolding Adj turned
-  cycle-closed {n} y = go (y .start) (y .rest) (y .closed) (y .distinct) (y .long) (y .short)
+  -- a simple cycle is a closed walk from any of its bits, over no other bits
+  pub cycle-at : (n : ℕ) (cs bs : List ℕ) → SimpleCycle G n cs bs → (b : ℕ) → Mem b bs
+      → (l : List Node) × ClosedAt G b l × (length l ≤ 2 * n) × ((a : ℕ) → Mem (bit a) l → Mem a bs)
+  cycle-at n cs bs y b m =
+      let (z, s, f) = turn-to G (cycle-of G n cs bs y) (bit b) (subst (Mem (bit b)) (sym (cycle-weave G n cs bs y)) (bit-weave b cs bs (y .n-checks ∙ sym (y .n-bits)) m)) in
+      let within : (a : ℕ) → Mem (bit a) (z .start ∷ z .rest) → Mem a bs = λ a h. weave-bit a cs bs (subst (Mem (bit a)) (cycle-weave G n cs bs y) (f (bit a) h)) in (
+        z .rest ++ bit b ∷ [],
+        record { walk = rw s at (z .closed); back = last-append (bit b) (z .rest) (bit b) []; moves = rw length-append (omega arith) },
+        rw length-append (omega (arith, z .short)),
+        λ a h. only a (z .start) (z .rest) s within (mem-append (bit a) (z .rest) (bit b ∷ []) h),
+      )
     where
-      from : (b : ℕ) (l : List Node) → Walk G (bit b ∷ l ++ bit b ∷ []) → length (bit b ∷ l) ≤ n → (b : ℕ) × (l : List Node) × ClosedAt G b l × (length l ≤ n)
-      from b l w k = (b, l ++ bit b ∷ [], record { walk = w; back = last-append (bit b) l (bit b) []; moves = rw length-append (omega arith) }, rw length-append (omega arith))
-
-      go : (u : Node) (l : List Node) → Walk G (u ∷ l ++ u ∷ []) → Nodup (u ∷ l) → 3 ≤ length (u ∷ l) → length (u ∷ l) ≤ n → (b : ℕ) × (l : List Node) × ClosedAt G b l × (length l ≤ n)
-      go (bit b) l w d h k = from b l w k
-      go (check c) [] w d h k = absurd (omega arith)
-      go (check c) (check a ∷ l) w d h k = absurd (w .0 .0)
-      go (check c) (bit b ∷ l) w d h k = let z : Cycle G n = turned G (check c) (bit b) l w d h k in from b (l ++ check c ∷ []) (z .closed) (z .short)
+      only : (a : ℕ) (u : Node) (r : List Node) → u ≡ bit b → ((a : ℕ) → Mem (bit a) (u ∷ r) → Mem a bs) → Mem (bit a) r ⊎ Mem (bit a) (bit b ∷ []) → Mem a bs
+      only a u r s f (inl h) = f a (inr h)
+      only a u r s f (inr (inl e)) = f a (inl (e ∙ sym s))
+      only a u r s f (inr (inr h)) = absurd h
 
   -- the verdict by closed walks from the bits
   pub passes-walks : (t : ℕ) → Passes G t ↔ ((b : ℕ) (l : List Node) → ClosedAt G b l → t ≤ length l)
   unfolding Passes
   passes-walks t = (
     λ p b l y. elim (decLe t (length l)) [ yes k ↦ k | no k ↦ absurd (passes-none G t (length l) p (omega arith) (closed-cycle b l y)) ],
-    λ h n cs bs y.
-        let z : (b : ℕ) × (l : List Node) × ClosedAt G b l × (length l ≤ 2 * n) = cycle-closed (cycle-of G n cs bs y) in
-        omega (arith, h (z .0) (z .1) (z .2)),
+    λ h n cs bs y. walks h n cs bs y,
   )
+    where
+      walks : ((b : ℕ) (l : List Node) → ClosedAt G b l → t ≤ length l) → (n : ℕ) (cs bs : List ℕ) → SimpleCycle G n cs bs → t ≤ 2 * n
+      walks h n cs [] y = absurd (omega (arith, y .least, y .n-bits))
+      walks h n cs (b ∷ bs) y = let (l, z, k, _) = cycle-at n cs (b ∷ bs) y b (inl refl) in omega (arith, h b l z)

@@ -1,7 +1,7 @@
 -- From a closed walk to a simple cycle as lists of checks and bits. Assumes nothing.
-use Prim.Native.Nat.{ℕ, zero, suc, _+_, _*_, _≤_, _<_, pred}
-use mathlib.Core.Path.{_≡_, refl, sym, ap, subst, _∙_}
-use mathlib.Core.Logic.{_⊎_, inl, inr, _≢_}
+use Prim.Native.Nat.{ℕ, zero, suc, _+_, _*_, _≤_, _<_}
+use mathlib.Core.Path.{_≡_, refl, sym, ap}
+use mathlib.Core.Logic.{inl, inr}
 use mathlib.Core.List.{List, [], _∷_, _++_}
 use native.Mathlib.Omega.{arith}
 use lib.ListN.{length, getD, length-append}
@@ -10,12 +10,12 @@ use Rattle.graph.specs.Graph.{Bipartite, Joined}
 use Rattle.graph.specs.Girth.{SimpleCycle, Passes}
 use Rattle.graph.proofs.Walks.{Node, check, bit, Adj, Walk, Cycle, walk-left, last-adj}
 
-checks-of : List Node → List ℕ
+unfoldable pub checks-of : List Node → List ℕ
 checks-of [] = []
 checks-of (check c ∷ l) = c ∷ checks-of l
 checks-of (bit b ∷ l) = checks-of l
 
-bits-of : List Node → List ℕ
+unfoldable pub bits-of : List Node → List ℕ
 bits-of [] = []
 bits-of (check c ∷ l) = bits-of l
 bits-of (bit b ∷ l) = b ∷ bits-of l
@@ -109,30 +109,37 @@ pub record Short (G : Bipartite) (m : ℕ) : Type 0 where
   pub fits : 2 * n ≤ m
 
 module _ (G : Bipartite) where
-  -- a closed walk that starts at the check c
-  from-check : (m c : ℕ) (l : List Node) → Walk G (check c ∷ l) → Adj G (last (check c) l) (check c) → Nodup (check c ∷ l) → 3 ≤ length (check c ∷ l) → length (check c ∷ l) ≤ m → Short G m
+  -- a closed walk that starts at the check c, its vertices distinct: its checks and its bits form a simple cycle
+  pub walk-cycle : (c : ℕ) (l : List Node) → Walk G (check c ∷ l) → Adj G (last (check c) l) (check c) → Nodup (check c ∷ l) → 3 ≤ length (check c ∷ l)
+      → SimpleCycle G (length (checks-of (check c ∷ l))) (checks-of (check c ∷ l)) (bits-of (check c ∷ l))
   unfolding checks-of bits-of
-  from-check m c l w a d long short =
+  walk-cycle c l w a d long =
       let cs : List ℕ = c ∷ checks-of l in
       let bs : List ℕ = bits-of l in
       let r : Ring G c cs bs = ring-of G c c l w a in
       let e : length cs ≡ length bs = ring-length G c cs bs r in
       let s : length (check c ∷ l) ≡ length cs + length bs = both (check c ∷ l) in
       record {
-        n = length cs;
-        cs = cs;
-        bs = bs;
-        cycle = record {
-          least = omega arith;
-          n-checks = refl;
-          n-bits = sym e;
-          forth = ring-forth G c cs bs r;
-          back = ring-back G c cs bs r;
-          closes = ring-closes G c c (checks-of l) bs r;
-          checks-differ = nodup-getD cs 0 (nodup-checks (check c ∷ l) d);
-          bits-differ = λ i j h k. nodup-getD bs 0 (nodup-bits (check c ∷ l) d) i j h (omega arith);
-        };
-        fits = omega arith;
+        least = omega arith;
+        n-checks = refl;
+        n-bits = sym e;
+        forth = ring-forth G c cs bs r;
+        back = ring-back G c cs bs r;
+        closes = ring-closes G c c (checks-of l) bs r;
+        checks-differ = nodup-getD cs 0 (nodup-checks (check c ∷ l) d);
+        bits-differ = λ i j h k. nodup-getD bs 0 (nodup-bits (check c ∷ l) d) i j h (omega arith);
+      }
+
+  from-check : (m c : ℕ) (l : List Node) → Walk G (check c ∷ l) → Adj G (last (check c) l) (check c) → Nodup (check c ∷ l)
+      → 3 ≤ length (check c ∷ l) → length (check c ∷ l) ≤ m → Short G m
+  from-check m c l w a d long short =
+      let y = walk-cycle c l w a d long in
+      record {
+        n = length (checks-of (check c ∷ l));
+        cs = checks-of (check c ∷ l);
+        bs = bits-of (check c ∷ l);
+        cycle = y;
+        fits = omega (arith, both (check c ∷ l), y .n-bits);
       }
 
   pub short-cycle : {m : ℕ} → Cycle G m → Short G m

@@ -1,0 +1,11 @@
+pub mod Found
+pub mod Link
+pub mod OneRow
+pub mod Closed
+pub mod Simple
+pub mod Verdict
+pub mod Loops
+pub mod Steps
+pub mod Rules
+pub mod Model
+pub mod Cases

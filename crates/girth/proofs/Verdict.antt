@@ -1,0 +1,144 @@
+-- The model of the search meets the girth test's declaration, and the cycle that it shows is a shortest one. Assumes nothing.
+use Prim.Native.Nat.{ℕ, zero, suc, _+_, _-_, _*_, _/_, _≤_, _<_}
+use mathlib.Core.Path.{_≡_, refl, sym, ap, subst₂, _∙_}
+use mathlib.Core.Logic.{inl, inr}
+use mathlib.Core.List.{List, [], _∷_, _++_}
+use mathlib.Core.Bool.{true}
+use mathlib.Core.Option.{none, some}
+use native.Mathlib.Omega.{arith}
+use lib.IntN.{ℤ}
+use lib.ListN.{length, take, getD, replicate, length-map}
+use lib.Seq.{take-at}
+use borrow.Author.Tests.{not-false}
+use Rattle.refusal.specs.Lowest.{lowest}
+use Rattle.refusal.proofs.Lowest.{none-holds}
+use Rattle.graph.specs.Graph.{Bipartite}
+use Rattle.graph.specs.Girth.{SimpleCycle, Passes}
+use Rattle.graph.proofs.Count.{member-mem}
+use Rattle.graph.proofs.Lists.{Mem}
+use Rattle.graph.proofs.Decide.{by-eq, by-le}
+use Rattle.exponent.specs.Limits.{planRules}
+use Rattle.exponent.proofs.Rules.{inside}
+use Rattle.girth.specs.declared.GirthTest.{GirthTest}
+use Rattle.girth.specs.declared.Outcome.the-variants.{Passed, Failed}
+use Rattle.exponent.specs.declared.index.Shape.{Shape}
+use Rattle.girth.specs.Test.{targets, allowed, testRules, places, without-witness, Answer, passed, failed}
+use Rattle.girth.specs.Search.{Blocks, blocksOf, Joint, Result, closedWalk, trail, witness, unlessFound, shortest}
+use Rattle.girth.proofs.Link.{graphOf}
+use Rattle.girth.proofs.Simple.{checksIn, bitsIn, met-cycle, found-cycle}
+
+-- what the search says of a graph, in rounds of fewer than t checks
+pub data Verdict (G : Bipartite) (t : ℕ) : GirthTest → Type 0 where
+  passes : Passes G (2 * t) → Verdict G t (without-witness Passed)
+  shows : (n : ℕ) (l : List Joint) → n < t → length l ≡ n → SimpleCycle G n (checksIn l) (bitsIn l) → Passes G (2 * n) → Verdict G t (witness n (trail l))
+
+-- no round before n finds anything
+abbrev NoneBefore : Blocks → ℕ → Type 0
+NoneBefore B n = (m : ℕ) → 2 ≤ m → m < n → closedWalk B m ≡ none
+
+module _ (plan : List ℤ) (s : Shape) (some-lift : 0 < s .lift) where
+  -- then every simple cycle has n checks at least
+  none-passes : (n : ℕ) → NoneBefore (blocksOf plan s) n → Passes (graphOf plan s) (2 * n)
+  unfolding Passes
+  none-passes n before k cs bs y =
+      let (m, two, h, met) = met-cycle plan s some-lift k cs bs y in
+      by-le n m (λ p. omega arith) (λ p. absurd (met (before m two p)))
+
+  -- and what round n finds is one: a shorter one would have been met before
+  first-found : (n : ℕ) (l : List Joint) → 2 ≤ n → NoneBefore (blocksOf plan s) n → closedWalk (blocksOf plan s) n ≡ some l
+      → (length l ≡ n) × SimpleCycle (graphOf plan s) n (checksIn l) (bitsIn l)
+  unfolding Passes
+  first-found n l two before e =
+      let (size, y) = found-cycle plan s some-lift n l two e in
+      (size, elim y [ inl c ↦ c | inr z ↦ absurd (omega (arith, z .fits, none-passes n before (z .n) (z .cs) (z .bs) (z .cycle))) ])
+
+  rounds : (k n t : ℕ) → 2 ≤ n → n + k ≡ t → NoneBefore (blocksOf plan s) n → Verdict (graphOf plan s) t (shortest (blocksOf plan s) k n)
+  unfolding shortest
+  rounds zero n t two e before = let h : n ≡ t = omega arith in passes (rw h at (none-passes n before))
+  rounds (suc k) n t two e before = step (closedWalk (blocksOf plan s) n) refl (rounds k (suc n) t (omega arith) (omega arith))
+    where
+      step : (r : Result) → closedWalk (blocksOf plan s) n ≡ r
+          → (NoneBefore (blocksOf plan s) (suc n) → Verdict (graphOf plan s) t (shortest (blocksOf plan s) k (suc n)))
+          → Verdict (graphOf plan s) t (unlessFound n r (shortest (blocksOf plan s) k (suc n)))
+      step none h more = more (λ m a b. by-eq m n (λ q. rw q h) (λ q. before m a (omega arith)))
+      step (some l) h more = let (size, y) = first-found n l two before h in shows n l (omega arith) size y (none-passes n before)
+
+-- an answer in five places, with zeros behind it
+
+zeros : (m k : ℕ) → _≡_ {A = ℕ} (getD (replicate m 0) k 0) 0
+zeros zero k = refl
+zeros (suc m) zero = refl
+zeros (suc m) (suc k) = zeros m k
+
+past-end : (xs : List ℕ) (m k : ℕ) → length xs ≤ k → getD (xs ++ replicate m 0) k 0 ≡ 0
+past-end [] m k h = zeros m k
+past-end (x ∷ xs) m zero h = absurd (omega arith)
+past-end (x ∷ xs) m (suc k) h = past-end xs m k (omega arith)
+
+in-places : (n m : ℕ) (xs ys : List ℕ) → length xs ≡ n → ys ≡ xs ++ replicate m 0 → (take n ys ≡ xs) × ((k : ℕ) → n ≤ k → getD ys k 0 ≡ 0)
+in-places n m xs ys e h = (ap (take n) h ∙ take-at xs (replicate m 0) n e, λ k q. ap (λ (l : List ℕ). getD l k 0) h ∙ past-end xs m k (omega arith))
+
+laid-out : (n : ℕ) (l : List Joint) → length l ≤ places
+    → (witness n (trail l) .checks ≡ checksIn l ++ replicate (places - length l) 0) × (witness n (trail l) .bits ≡ bitsIn l ++ replicate (places - length l) 0)
+unfolding trail
+laid-out n [] h = (refl, refl)
+laid-out n (a ∷ []) h = (refl, refl)
+laid-out n (a ∷ b ∷ []) h = (refl, refl)
+laid-out n (a ∷ b ∷ c ∷ []) h = (refl, refl)
+laid-out n (a ∷ b ∷ c ∷ d ∷ []) h = (refl, refl)
+laid-out n (a ∷ b ∷ c ∷ d ∷ e ∷ []) h = (refl, refl)
+laid-out n (a ∷ b ∷ c ∷ d ∷ e ∷ f ∷ l) h = absurd (let z : ⊥ = omega arith in z)
+
+-- what an allowed target is to the search: it is even, and its rounds fit in the places
+pub record Rounds (target : ℕ) : Type 0 where
+  pub whole : 2 + (target / 2 - 2) ≡ target / 2
+  pub fits : target / 2 ≤ suc places
+  pub even : 2 * (target / 2) ≡ target
+
+rounds-of : (target : ℕ) → Mem target targets → Rounds target
+rounds-of t (inl e) = omega arith
+rounds-of t (inr (inl e)) = omega arith
+rounds-of t (inr (inr (inl e))) = omega arith
+rounds-of t (inr (inr (inr (inl e)))) = omega arith
+rounds-of t (inr (inr (inr (inr m)))) = absurd m
+
+pub allowed-rounds : (target : ℕ) → allowed target ≡ true → Rounds target
+unfolding allowed
+allowed-rounds target e = rounds-of target (member-mem target targets e)
+
+module _ (plan : List ℤ) (s : Shape) (target : ℕ) (accepted : lowest (testRules plan (s .rows) (s .cols) (s .lift) target) ≡ none) where
+  -- a plan that is not refused has a lift, and its target is allowed
+  asked : (0 < s .lift) × Rounds target
+  unfolding testRules planRules
+  asked =
+      let (_, (_, (l, (_, (_, (_, (t, _))))))) = none-holds (testRules plan (s .rows) (s .cols) (s .lift) target) .0 accepted in
+      (inside 1 4096 (s .lift) .0 l .0, allowed-rounds target (not-false (allowed target) t))
+
+  pub model-verdict : Verdict (graphOf plan s) (target / 2) (shortest (blocksOf plan s) (target / 2 - 2) 2)
+  model-verdict = rounds plan s (asked .0) (target / 2 - 2) 2 (target / 2) (omega arith) (asked .1 .whole) (λ m a b. absurd (let z : ⊥ = omega arith in z))
+
+  -- THE LAW: the model's answer is the test's
+  pub model-answers : Answer plan (s .rows) (s .cols) (s .lift) target (shortest (blocksOf plan s) (target / 2 - 2) 2)
+  model-answers = go model-verdict
+    where
+      go : {r : GirthTest} → Verdict (graphOf plan s) (target / 2) r → Answer plan (s .rows) (s .cols) (s .lift) target r
+      go (passes p) = passed accepted (rw (asked .1 .even) at p)
+      go (shows n l h size y p) =
+          let (cs, bs) = laid-out n l (omega (arith, asked .1 .fits)) in
+          let (f, u) = in-places n (places - length l) (checksIn l) (witness n (trail l) .checks) (length-map l (λ e. e .check) ∙ size) cs in
+          let (g, v) = in-places n (places - length l) (bitsIn l) (witness n (trail l) .bits) (length-map l (λ e. e .bit) ∙ size) bs in
+          failed (witness n (trail l)) accepted
+          (record {
+            failed = refl;
+            short = omega (arith, asked .1 .even);
+            cycle = subst₂ (SimpleCycle (graphOf plan s) n) (sym f) (sym g) y;
+            unused = λ k q. (u k q, v k q);
+          })
+
+  -- and a cycle that it shows is a shortest one
+  pub shown-shortest : shortest (blocksOf plan s) (target / 2 - 2) 2 .outcome ≡ Failed → Passes (graphOf plan s) (2 * shortest (blocksOf plan s) (target / 2 - 2) 2 .n)
+  shown-shortest = go model-verdict
+    where
+      go : {r : GirthTest} → Verdict (graphOf plan s) (target / 2) r → r .outcome ≡ Failed → Passes (graphOf plan s) (2 * r .n)
+      go (passes p) e = absurd (let z : _≡_ {A = ℕ} 0 1 = cc in omega arith)
+      go (shows n l h size y p) e = p

@@ -1,0 +1,339 @@
+-- The cycle of calls {at_bit, at_check}: `at_check` at depth d calls `at_bit` at d - 1, and `at_bit` calls `at_check` at the same
+-- depth, so 2d + 1 and 2d are the measures. Each loop keeps what is left of its search, and skips by its index. Assumes nothing.
+use Prim.Native.Nat.{ℕ, _<_, _+_, _-_}
+use mathlib.Core.Path.{_≡_, refl, sym, ap, _∙_}
+use native.Mathlib.Omega.{arith}
+use denote.Ref.{now}
+use borrow.Author.Needs.{needs}
+use borrow.Fn.Kinds.{In, Out}
+use borrow.Fn.PlainCycle.{Measures, is, falls, and}
+use Rattle.girth.specs.declared.search.Step.the-variants.{To}
+use Rattle.girth.specs.declared.trail.Found.the-variants.{Closed}
+use Rattle.girth.specs.Search.{Blocks, blocksOf, toColumn, toRow, Joint, Result, found, joint, atBit, atCheck, AtBit}
+use Rattle.exponent.specs.Index.{NextFrom, filledAt}
+use Rattle.girth.proofs.Loops.{left-stay, left-miss, left-hit, left-end, left-skip, after-nothing, after-closed}
+use Rattle.girth.proofs.Steps.{listed, to-bit, to-check, no-column, no-row, push-same, BitLeft, at-bit-left, CheckLeft, at-last, at-check-left}
+use Rattle.girth.proofs.search.at_bit.Reads as at-bit
+use Rattle.girth.proofs.search.at_bit.Kinds as at-bit-kinds
+use Rattle.girth.proofs.search.+at_bit+at_check.Lts-at_bit as at-bit-lts
+use Rattle.girth.proofs.search.at_check.Reads as at-check
+use Rattle.girth.proofs.search.at_check.Kinds as at-check-kinds
+use Rattle.girth.proofs.search.+at_bit+at_check.Lts-at_check as at-check-lts
+use Rattle.girth.proofs.search.close.Reads as close-reads
+use Rattle.exponent.proofs.index.next.Reads as next-reads
+use Rattle.girth.proofs.search.number.Reads as number-reads
+use Rattle.girth.proofs.search.to_column.Reads as to-column-reads
+use Rattle.girth.proofs.search.to_row.Reads as to-row-reads
+use Rattle.girth.proofs.trail.Trail.push.Reads as push-reads
+use Rattle.girth.proofs.search.+at_bit+at_check.{statement}
+use Rattle.girth.proofs.search.+at_bit+at_check.Tie.{close}
+
+abbrev μ-at-bit : Measures 3 at-bit-kinds.ps ℕ
+μ-at-bit κs a = a .1 .1 .1 .1 .1 .0 + a .1 .1 .1 .1 .1 .0 + 1
+
+abbrev μ-at-check : Measures 3 at-check-kinds.ps ℕ
+μ-at-check κs a = a .1 .1 .1 .1 .1 .0 + a .1 .1 .1 .1 .1 .0
+
+abbrev at-bit-at : ℕ → In 3 at-bit-kinds.ps
+at-bit-at t = and 3 at-bit-kinds.ps (is 3 at-bit-kinds.ps μ-at-bit t) at-bit.Pre
+
+abbrev at-bit-below : ℕ → In 3 at-bit-kinds.ps
+at-bit-below t = and 3 at-bit-kinds.ps (falls 3 at-bit-kinds.ps _<_ μ-at-bit t) at-bit.Pre
+
+abbrev at-check-at : ℕ → In 3 at-check-kinds.ps
+at-check-at t = and 3 at-check-kinds.ps (is 3 at-check-kinds.ps μ-at-check t) at-check.Pre
+
+abbrev at-check-below : ℕ → In 3 at-check-kinds.ps
+at-check-below t =
+    and 3 at-check-kinds.ps (falls 3 at-check-kinds.ps _<_ μ-at-check t) at-check.Pre
+
+abbrev bit-inv : at-bit-lts.InvT-loop
+bit-inv plan down along shape start depth p rows i₀ i = BitLeft (blocksOf plan shape) start depth p i
+
+abbrev bit-μ : at-bit-lts.MeasureT-loop
+bit-μ plan down along shape start depth p rows i₀ i = rows - i
+
+abbrev check-inv : at-check-lts.InvT-loop
+check-inv plan down along shape start depth p cols j₀ j = CheckLeft (blocksOf plan shape) start depth p j
+
+abbrev check-μ : at-check-lts.MeasureT-loop
+check-μ plan down along shape start depth p cols j₀ j = cols - j
+
+abbrev bit-claims : ℕ → at-bit-lts.Claims
+bit-claims t = (next-reads.Asked, next-reads.Learnt, to-row-reads.Asked, to-row-reads.Learnt, at-check-below t, at-check.Post)
+
+abbrev check-claims : ℕ → at-check-lts.Claims
+check-claims t = (
+  close-reads.Asked,
+  close-reads.Learnt,
+  next-reads.Asked,
+  next-reads.Learnt,
+  to-column-reads.Asked,
+  to-column-reads.Learnt,
+  at-bit-below t,
+  at-bit.Post,
+  number-reads.Asked,
+  number-reads.Learnt,
+  push-reads.Asked,
+  push-reads.Learnt,
+)
+
+module _ (t : ℕ) where
+  -- the form of each place and need
+  abbrev bit : (at-bit-lts.Claims → In 3 at-bit-kinds.ps → Out 3 at-bit-kinds.ps at-bit-kinds.r → at-bit-lts.InvT-loop → at-bit-lts.MeasureT-loop → Type 0) → Type 0
+  bit N = N (bit-claims t) (at-bit-at t) at-bit.Post bit-inv bit-μ
+
+  abbrev check : (at-check-lts.Claims → In 3 at-check-kinds.ps → Out 3 at-check-kinds.ps at-check-kinds.r → at-check-lts.InvT-loop → at-check-lts.MeasureT-loop → Type 0) → Type 0
+  check N = N (check-claims t) (at-check-at t) at-check.Post check-inv check-μ
+
+  -- AT A BIT
+
+  abbrev bit-blocks : bit at-bit-lts.Start → Blocks
+  bit-blocks s = blocksOf (now (s .args .plan)) (s .args .shape)
+
+  -- what the index says, and what is left from there on
+  row-next : (c : bit at-bit-lts.After-next) → let a = c .before .before .before .before .before .args in
+      NextFrom (λ k. filledAt (now (a .plan)) (a .shape) k (a .p .col)) (c .before .before .loop .i) (a .shape .rows) (c .next .result)
+  row-next c =
+      let p = c .before .before .before .before .before .pre .1 in
+      rw (c .next .ensures) (p .2 .next _ _ (c .before .loop-test .taken) (p .0 .col))
+
+  row-left : (c : bit at-bit-lts.After-next) → let s = c .before .before .before .before .before in
+      BitLeft (bit-blocks s) (s .args .start) (s .args .depth) (s .args .p) (c .next .result)
+  row-left c =
+      let a = c .before .before .before .before .before .args in left-skip (row-next c) (no-row (now (a .plan)) (a .shape) (a .p)) (c .before .before .loop .inv)
+
+  -- where the step lands
+  row-landed : (c : bit at-bit-lts.After-step) → let n = c .before .before .before .before in let s = n .before .before .before .before .before in
+      toRow (bit-blocks s) (s .args .p) (n .next .result) ≡ To (c .step .given .0 .0)
+  row-landed c = sym (c .before .before .to-row .ensures) ∙ c .step .given .1
+
+  bit-loop-holds : bit at-bit-lts.Need-loop-holds
+  bit-loop-holds c = at-bit-left _ _ _ _
+
+  bit-next-requires : bit at-bit-lts.Need-next-requires
+  bit-next-requires c κs =
+      let p = c .before .before .before .before .pre .1 in listed (p .2 .whole) (c .loop-test .taken) (p .0 .col)
+
+  bit-returns : bit at-bit-lts.Need-returns
+  bit-returns c = left-end (row-left (c .before)) (c .if1 .taken)
+
+  bit-add-i : bit at-bit-lts.Need-add-i
+  bit-add-i c = search needs
+
+  bit-to-row-requires : bit at-bit-lts.Need-to-row-requires
+  bit-to-row-requires c κs = search needs
+
+  bit-enum-known-step : bit at-bit-lts.Need-enum-known-step
+  bit-enum-known-step c = search needs
+
+  bit-at-check-requires : bit at-bit-lts.Need-at-check-requires
+  bit-at-check-requires c κs =
+      let e = c .before .before .before .before in
+      let p = e .before .before .before .before .before .before .pre in
+      (omega (arith, p .0), (to-check (p .1 .0) (e .if1 .left) (row-landed (c .before)), p .1 .1, p .1 .2, p .1 .3))
+
+  bit-enum-known-f : bit at-bit-lts.Need-enum-known-f
+  bit-enum-known-f c = search needs
+
+  bit-returns-2 : bit at-bit-lts.Need-returns-2
+  bit-returns-2 c =
+      let s = c .before .before .before .before .before in
+      left-hit (row-left (s .before .before .before .before)) (s .before .before .before .if1 .left) (row-landed s)
+      (sym (c .before .before .before .at-check .ensures) ∙ c .before .f .given .1)
+
+  bit-enum-told : bit at-bit-lts.Need-enum-told
+  bit-enum-told c = search needs
+
+  bit-loop-less : bit at-bit-lts.Need-loop-less
+  bit-loop-less c =
+      let e = c .before .before .before .before .before .before .before in let l = e .if1 .left in omega (arith, row-next (e .before) .from-here)
+
+  bit-loop-again : bit at-bit-lts.Need-loop-again
+  bit-loop-again c =
+      let s = c .before .before .before .before in
+      left-miss (row-left (s .before .before .before .before)) (s .before .before .before .if1 .left) (row-landed s)
+      (sym (c .before .before .at-check .ensures) ∙ c .enum-told .given .1)
+
+  bit-enum-told-2 : bit at-bit-lts.Need-enum-told-2
+  bit-enum-told-2 c = search needs
+
+  bit-loop-less-2 : bit at-bit-lts.Need-loop-less-2
+  bit-loop-less-2 c = let e = c .before .before .before in let l = e .if1 .left in omega (arith, row-next (e .before) .from-here)
+
+  bit-loop-again-2 : bit at-bit-lts.Need-loop-again-2
+  bit-loop-again-2 c =
+      let e = c .before .before .before in
+      left-stay (row-left (e .before)) (e .if1 .left) (sym (c .before .before .to-row .ensures) ∙ c .enum-told2 .given .1)
+
+  bit-returns-3 : bit at-bit-lts.Need-returns-3
+  bit-returns-3 c = left-end (c .before .loop .inv) (c .loop-test .left)
+
+  -- AT A CHECK
+
+  abbrev check-blocks : check at-check-lts.Start → Blocks
+  check-blocks s = blocksOf (now (s .args .plan)) (s .args .shape)
+
+  -- what the index says, and what is left from there on
+  col-next : (c : check at-check-lts.After-next) → let a = c .before .before .before .before .before .before .args in
+      NextFrom (filledAt (now (a .plan)) (a .shape) (a .p .row)) (c .before .before .loop .j) (a .shape .cols) (c .next .result)
+  col-next c =
+      let p = c .before .before .before .before .before .before .pre .1 in
+      rw (c .next .ensures) (p .3 .next _ _ (p .0 .row) (c .before .loop-test .taken))
+
+  col-left : (c : check at-check-lts.After-next) → let s = c .before .before .before .before .before .before in
+      CheckLeft (check-blocks s) (s .args .start) (s .args .depth) (s .args .p) (c .next .result)
+  col-left c =
+      let a = c .before .before .before .before .before .before .args in left-skip (col-next c) (no-column (now (a .plan)) (a .shape) (a .p)) (c .before .before .loop .inv)
+
+  -- where the step lands
+  col-landed : (c : check at-check-lts.After-step) → let n = c .before .before .before .before in let s = n .before .before .before .before .before .before in
+      toColumn (check-blocks s) (s .args .p) (n .next .result) ≡ To (c .step .given .0 .0)
+  col-landed c = sym (c .before .before .to-column .ensures) ∙ c .step .given .1
+
+  bit-of : (c : check at-check-lts.After-step) → let s = c .before .before .before .before .before .before .before .before .before .before in
+      AtBit (now (s .args .plan)) (s .args .shape) (c .step .given .0 .0)
+  bit-of c =
+      let e = c .before .before .before in to-bit (e .before .before .before .before .before .before .before .pre .1 .0) (e .if2 .left) (col-landed c)
+
+  -- what the step adds to a walk, and the search after it
+  abbrev added : check at-check-lts.After-step → Joint
+  added c =
+      let s = c .before .before .before .before .before .before .before .before .before .before in joint (check-blocks s) (s .args .p) (c .step .given .0 .0)
+
+  abbrev after-it : check at-check-lts.After-step → Result
+  after-it c =
+      let s = c .before .before .before .before .before .before .before .before .before .before in
+      atBit (check-blocks s) (atCheck (check-blocks s) (s .args .start) (s .args .depth - 1)) (c .step .given .0 .0)
+
+  check-close-requires : check at-check-lts.Need-close-requires
+  check-close-requires c κs = search needs
+
+  check-returns : check at-check-lts.Need-returns
+  check-returns c = c .close .ensures ∙ ap found (at-last _ _ _ _ (c .before .if1 .taken))
+
+  check-loop-holds : check at-check-lts.Need-loop-holds
+  check-loop-holds c = at-check-left _ _ _ _ (c .if1 .left)
+
+  check-next-requires : check at-check-lts.Need-next-requires
+  check-next-requires c κs =
+      let p = c .before .before .before .before .before .pre .1 in listed (p .3 .whole) (p .0 .row) (c .loop-test .taken)
+
+  check-returns-2 : check at-check-lts.Need-returns-2
+  check-returns-2 c = left-end (col-left (c .before)) (c .if2 .taken)
+
+  check-add-j : check at-check-lts.Need-add-j
+  check-add-j c = search needs
+
+  check-to-column-requires : check at-check-lts.Need-to-column-requires
+  check-to-column-requires c κs = search needs
+
+  check-enum-known-step : check at-check-lts.Need-enum-known-step
+  check-enum-known-step c = search needs
+
+  check-sub-at-bit : check at-check-lts.Need-sub-at-bit
+  check-sub-at-bit c = search needs
+
+  check-at-bit-requires : check at-check-lts.Need-at-bit-requires
+  check-at-bit-requires c κs =
+      let e = c .before .before .before .before .before .before .before .before in
+      let p = e .before .before .before .pre in
+      (omega (arith, p .0, e .if1 .left), (bit-of (c .before), p .1 .1, p .1 .2, p .1 .3))
+
+  check-enum-known-f : check at-check-lts.Need-enum-known-f
+  check-enum-known-f c = search needs
+
+  check-number-requires : check at-check-lts.Need-number-requires
+  check-number-requires c κs =
+      let p = c .before .before .before .before .before .before .before .before .before .before .before .before .before .before .before .pre .1 .0 in search needs
+
+  check-number-requires-2 : check at-check-lts.Need-number-requires-2
+  check-number-requires-2 c κs = let p = bit-of (c .before .before .before .before .before .before) in search needs
+
+  check-push-requires : check at-check-lts.Need-push-requires
+  check-push-requires c κs = search needs
+
+  check-returns-3 : check at-check-lts.Need-returns-3
+  check-returns-3 c =
+      let f = c .before .before .before .before in
+      let s = f .before .before .before .before in
+      ap Closed (c .push .ensures ∙ push-same {t = f .f .given .0 .0} (c .before .before .number .ensures) (c .before .number2 .ensures) refl)
+      ∙ left-hit (col-left (s .before .before .before .before)) (s .before .before .before .if2 .left) (col-landed s)
+      (after-closed (added s) (after-it s) (f .f .given .0 .0) (sym (f .before .before .at-bit .ensures) ∙ f .f .given .1))
+
+  check-enum-told : check at-check-lts.Need-enum-told
+  check-enum-told c = search needs
+
+  check-loop-less : check at-check-lts.Need-loop-less
+  check-loop-less c =
+      let e = c .before .before .before .before .before .before .before in let l = e .if2 .left in omega (arith, col-next (e .before) .from-here)
+
+  check-loop-again : check at-check-lts.Need-loop-again
+  check-loop-again c =
+      let s = c .before .before .before .before in
+      left-miss (col-left (s .before .before .before .before)) (s .before .before .before .if2 .left) (col-landed s)
+      (after-nothing (added s) (after-it s) (sym (c .before .before .at-bit .ensures) ∙ c .enum-told .given .1))
+
+  check-enum-told-2 : check at-check-lts.Need-enum-told-2
+  check-enum-told-2 c = search needs
+
+  check-loop-less-2 : check at-check-lts.Need-loop-less-2
+  check-loop-less-2 c = let e = c .before .before .before in let l = e .if2 .left in omega (arith, col-next (e .before) .from-here)
+
+  check-loop-again-2 : check at-check-lts.Need-loop-again-2
+  check-loop-again-2 c =
+      let e = c .before .before .before in
+      left-stay (col-left (e .before)) (e .if2 .left) (sym (c .before .before .to-column .ensures) ∙ c .enum-told2 .given .1)
+
+  check-returns-4 : check at-check-lts.Need-returns-4
+  check-returns-4 c = left-end (c .before .loop .inv) (c .loop-test .left)
+
+pub +at-bit+at-check-spec : {M : Type 1} → statement M
++at-bit+at-check-spec = close μ-at-bit μ-at-check (λ t. at-bit-lts.spec (bit-claims t)
+    (at-bit-at t)
+    at-bit.Post
+    bit-inv
+    bit-μ
+    (bit-loop-holds t)
+    (bit-next-requires t)
+    (bit-returns t)
+    (bit-add-i t)
+    (bit-to-row-requires t)
+    (bit-enum-known-step t)
+    (bit-at-check-requires t)
+    (bit-enum-known-f t)
+    (bit-returns-2 t)
+    (bit-enum-told t)
+    (bit-loop-less t)
+    (bit-loop-again t)
+    (bit-enum-told-2 t)
+    (bit-loop-less-2 t)
+    (bit-loop-again-2 t)
+    (bit-returns-3 t))
+    λ t. at-check-lts.spec (check-claims t)
+    (at-check-at t)
+    at-check.Post
+    check-inv
+    check-μ
+    (check-close-requires t)
+    (check-returns t)
+    (check-loop-holds t)
+    (check-next-requires t)
+    (check-returns-2 t)
+    (check-add-j t)
+    (check-to-column-requires t)
+    (check-enum-known-step t)
+    (check-sub-at-bit t)
+    (check-at-bit-requires t)
+    (check-enum-known-f t)
+    (check-number-requires t)
+    (check-number-requires-2 t)
+    (check-push-requires t)
+    (check-returns-3 t)
+    (check-enum-told t)
+    (check-loop-less t)
+    (check-loop-again t)
+    (check-enum-told-2 t)
+    (check-loop-less-2 t)
+    (check-loop-again-2 t)
+    (check-returns-4 t)

@@ -1,0 +1,50 @@
+-- `girth::test_valid` meets its contract: its two lists have room for the largest plan, and the search asks for no more than `build` gives.
+-- Assumes nothing.
+use Prim.Native.Nat.{ℕ, _≤_}
+use native.Mathlib.Nat.{mul-le-mul}
+use native.Mathlib.Omega.{arith}
+use lib.ListN.{length, replicate, length-replicate}
+use borrow.Author.Needs.{needs}
+use Rattle.girth.proofs.test_valid.Statement.{statement}
+use Rattle.girth.proofs.test_valid.Tie as tie
+
+-- an array has room for its length
+room : (n a k : ℕ) → k ≤ n → k ≤ length (replicate n a)
+room n a k h = rw length-replicate h
+
+slice-aggregate-build : tie.Need-slice-aggregate-build
+slice-aggregate-build c = search needs
+
+slice-aggregate-build-2 : tie.Need-slice-aggregate-build-2
+slice-aggregate-build-2 c = search needs
+
+build-requires : tie.Need-build-requires
+build-requires c κs =
+    let w = c .before .before .pre .0 in
+    let h = mul-le-mul (w .few-rows) (w .few-cols) in
+    (w, room 98304 0 _ h, room 98304 0 _ h)
+
+slice-aggregate-shortest-below : tie.Need-slice-aggregate-shortest-below
+slice-aggregate-shortest-below c = search needs
+
+slice-aggregate-shortest-below-2 : tie.Need-slice-aggregate-shortest-below-2
+slice-aggregate-shortest-below-2 c = search needs
+
+shortest-below-requires : tie.Need-shortest-below-requires
+shortest-below-requires c κs =
+    let b = c .before .before .before .before in (b .before .before .before .pre .0, omega arith, b .build .ensures .0, b .build .ensures .1)
+
+returns : tie.Need-returns
+returns c = search needs
+
+pub test-valid-spec : {M : Type 1} → statement M
+test-valid-spec =
+    tie.close
+    (tie.spec
+    slice-aggregate-build
+    slice-aggregate-build-2
+    build-requires
+    slice-aggregate-shortest-below
+    slice-aggregate-shortest-below-2
+    shortest-below-requires
+    returns)

@@ -1,0 +1,81 @@
+// The girth test (document 01: girth verdict): whether a plan's Tanner graph has no simple cycle shorter than a target.
+ghost use mathlib.Core.Path.{_≡_};
+ghost use Prim.Native.Nat.{_-_, _/_, _≤_};
+ghost use Rattle.exponent.specs.Limits.{WellFormed};
+ghost use Rattle.girth.specs.Search.{blocksOf, shortest};
+ghost use Rattle.girth.specs.Test.{Answer, allowed, without-witness};
+
+pub mod search; // search.rt: closed walks from a bit, by two functions that call each other
+pub mod trail; // trail.rt: the checks and bits of a closed walk
+
+use exponent::Validity;
+use exponent::index;
+use exponent::index::Shape;
+use refusal::Refusal;
+
+pub enum Outcome {
+    Passed,
+    Failed,
+    Refused(Refusal),
+}
+
+// The answer: where it is Failed, a witness cycle of n checks and n bits; all 0 otherwise and in the places not used.
+pub struct GirthTest {
+    pub outcome: Outcome,
+    pub n: usize,
+    pub checks: [usize; 5],
+    pub bits: [usize; 5],
+}
+
+// Whether the target is one that the test takes.
+fn is_allowed(target: usize) -> bool
+    ensures { λ r. ⌜ r ≡ allowed target ⌝ }
+{
+    match target {
+        6 => true,
+        8 => true,
+        10 => true,
+        12 => true,
+        _ => false,
+    }
+}
+
+// An answer without a witness.
+pub fn without_witness(outcome: Outcome) -> GirthTest
+    ensures { λ r. ⌜ r ≡ without-witness outcome ⌝ }
+{
+    GirthTest {
+        outcome,
+        n: 0,
+        checks: [0; 5],
+        bits: [0; 5],
+    }
+}
+
+// Tests a valid plan at an allowed target.
+fn test_valid(plan: &[i16], shape: Shape, target: usize) -> GirthTest
+    requires { ⌜ WellFormed (now plan) (shape .rows) (shape .cols) (shape .lift) × (target ≤ 12) ⌝ }
+    ensures { λ r. ⌜ r ≡ shortest (blocksOf (now (plan .entry)) shape) (target / 2 - 2) 2 ⌝ }
+{
+    let mut down = [0u16; index::PLACES];
+    let mut along = [0u16; index::PLACES];
+    index::build(plan, shape, &mut down, &mut along);
+    search::shortest_below(plan, &down, &along, shape, target / 2)
+}
+
+// Whether no simple cycle has fewer edges than the target; else such a cycle.
+pub fn test(plan: &[i16], rows: usize, cols: usize, lift: usize, target: usize) -> GirthTest
+    ensures { λ r. ⌜ Answer (now (plan .entry)) rows cols lift target r ⌝ }
+{
+    let validity = exponent::validate(plan, rows, cols, lift);
+    match validity {
+        Validity::Refused(x) => without_witness(Outcome::Refused(x)),
+        Validity::Valid => {
+            if is_allowed(target) {
+                test_valid(plan, Shape { rows, cols, lift }, target)
+            } else {
+                without_witness(Outcome::Refused(Refusal::Target))
+            }
+        }
+    }
+}
