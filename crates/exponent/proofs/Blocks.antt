@@ -1,12 +1,12 @@
 -- A test that picks at most one number of each block: what it selects, block by block. Bits of a check and checks of a bit are
 -- both of this kind. Assumes nothing.
-use Prim.Native.Nat.{ℕ, zero, suc, _+_, _*_, _≤_, _<_}
+use Prim.Native.Nat.{ℕ, zero, suc, _+_, _-_, _*_, _≤_, _<_}
 use mathlib.Core.Path.{_≡_, refl, sym, ap, ap₂, _∙_}
 use mathlib.Core.Bool.{Bool, true, false, cond}
-use mathlib.Core.List.{List, [], _∷_, _++_}
+use mathlib.Core.List.{List, [], _∷_, _++_, append-nil}
 use mathlib.Core.Option.{Option, none, some}
 use native.Mathlib.Omega.{arith}
-use native.Mathlib.Nat.{suc-mul, zero-mul}
+use native.Mathlib.Nat.{suc-mul, zero-mul, zero-add}
 use borrow.Author.Tests.{eq-eqb, ne-eqb}
 use lib.Dec.{eqb, eqb·suc-suc}
 use lib.ListN.{length}
@@ -96,3 +96,37 @@ module _ (f : ℕ → Bool) where
     pub select-gather : (n : ℕ) → ((j : ℕ) → j < n → Picks j) → select f (below (n * lift)) ≡ gather lift pick (below n)
     select-gather n p =
         ap (λ (k : ℕ). select f (range k (n * lift))) (sym (zero-mul lift)) ∙ select-blocks 0 n (λ j h k. p j (omega arith))
+
+-- What more blocks add
+
+pub below-last : (n : ℕ) → below (n + 1) ≡ below n ++ n ∷ []
+unfolding range
+below-last n = range-append 0 n 1 ∙ ap (λ (k : ℕ). below n ++ k ∷ []) (zero-add n)
+
+module _ (lift : ℕ) (pick : ℕ → Option ℕ) where
+  pub gather-append : (p q : List ℕ) → gather lift pick (p ++ q) ≡ gather lift pick p ++ gather lift pick q
+  unfolding gather
+  gather-append [] q = refl
+  gather-append (j ∷ p) q = step (pick j) (gather-append p q)
+    where
+      step : (o : Option ℕ) → gather lift pick (p ++ q) ≡ gather lift pick p ++ gather lift pick q
+          → put o (j * lift) (gather lift pick (p ++ q)) ≡ put o (j * lift) (gather lift pick p) ++ gather lift pick q
+      step none e = e
+      step (some x) e = ap (λ (l : List ℕ). (j * lift + x) ∷ l) e
+
+  pub gather-last : (n : ℕ) → gather lift pick (below (n + 1)) ≡ gather lift pick (below n) ++ gather lift pick (n ∷ [])
+  gather-last n = ap (gather lift pick) (below-last n) ∙ gather-append (below n) (n ∷ [])
+
+  gather-none : (s n : ℕ) → ((j : ℕ) → s ≤ j → j < s + n → pick j ≡ none) → gather lift pick (range s n) ≡ []
+  unfolding gather range
+  gather-none s zero h = refl
+  gather-none s (suc n) h = rw (h s (omega arith) (omega arith)) (gather-none (suc s) n (λ j p q. h j (omega arith) (omega arith)))
+
+  -- blocks that have no number add nothing
+  pub gather-skip : (m n : ℕ) → m ≤ n → ((j : ℕ) → m ≤ j → j < n → pick j ≡ none) → gather lift pick (below n) ≡ gather lift pick (below m)
+  gather-skip m n h none-of =
+      ap (λ (k : ℕ). gather lift pick (below k)) (let e : n ≡ m + (n - m) = omega arith in e)
+      ∙ ap (gather lift pick) (range-append 0 m (n - m))
+      ∙ gather-append (below m) (range (0 + m) (n - m))
+      ∙ ap (λ (l : List ℕ). gather lift pick (below m) ++ l) (gather-none (0 + m) (n - m) (λ j p q. none-of j (omega arith) (omega arith)))
+      ∙ append-nil (gather lift pick (below m))

@@ -1,0 +1,5 @@
+pub mod Symbols
+pub mod Scanning
+pub mod Odds
+pub mod Rules
+pub mod Cases

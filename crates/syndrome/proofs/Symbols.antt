@@ -1,0 +1,46 @@
+-- Laws of a word's bytes: which of them are refused, which are erasures, and how many. Assumes nothing.
+use Prim.Native.Nat.{ℕ, _+_, _≤_, _<_}
+use mathlib.Core.Path.{_≡_, ap, _∙_}
+use mathlib.Core.Logic.{_↔_}
+use mathlib.Core.Bool.{Bool, true, false}
+use mathlib.Core.List.{[], _∷_}
+use native.Mathlib.Omega.{arith}
+use borrow.Author.Tests.{lt-ltb, le-ltb, ne-eqb}
+use Rattle.graph.specs.Count.{below, one, count}
+use Rattle.graph.proofs.Count.{count-append}
+use Rattle.graph.proofs.Decide.{both-ways, by-le}
+use Rattle.exponent.proofs.Blocks.{below-last}
+use Rattle.syndrome.specs.declared.byte.Symbol.the-variants.{Known, Erased, Other}
+use Rattle.syndrome.specs.Word.{symbolOf, sought, isErasure, isOther}
+
+module _ (x : ℕ) where
+  pub symbol-known : x < 2 → symbolOf x ≡ Known
+  symbol-known h = rw (lt-ltb x 2 h)
+
+  pub symbol-erased : x ≡ 2 → symbolOf x ≡ Erased
+  symbol-erased e = ap symbolOf e
+
+  pub symbol-other : 2 < x → symbolOf x ≡ Other
+  symbol-other h = rw (le-ltb x 2 (omega arith), ne-eqb x 2 (λ e. omega arith))
+
+  -- 0, 1 and 2 are not refused, and no others
+  pub not-other : (isOther x ≡ false) ↔ (x ≤ 2)
+  not-other = (
+    λ e. by-le x 2 (λ h. h) (λ h. both-ways (ap (sought false) (symbol-other h)) e),
+    λ h.
+        by-le 2 x
+        (λ k. ap (sought false) (symbol-erased (let e : x ≡ 2 = omega arith in e)))
+        (λ k. ap (sought false) (symbol-known k)),
+  )
+
+  -- of these, 0 and 1 are no erasures
+  pub not-erasure : x ≤ 2 → (isErasure x ≡ false) ↔ (x < 2)
+  not-erasure h = (
+    λ e. by-le 2 x (λ k. both-ways (ap (sought true) (symbol-erased (let q : x ≡ 2 = omega arith in q))) e) (λ k. k),
+    λ k. ap (sought true) (symbol-known k),
+  )
+
+-- one number more
+pub count-last : (f : ℕ → Bool) (n : ℕ) → count f (below (n + 1)) ≡ count f (below n) + one (f n)
+unfolding count
+count-last f n = ap (count f) (below-last n) ∙ omega (arith, count-append f (below n) (n ∷ []))
