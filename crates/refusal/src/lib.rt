@@ -1,3 +1,5 @@
+pub mod numbers; // numbers.rt: the number and the values of a refusal, as numbers
+
 // Why a call turns its caller away: one case for each number of document 01, "Turned away", with the values it carries.
 // Places count from 0. `number` and `values` of specs/Number.antt give the document's number and values.
 pub enum Refusal {

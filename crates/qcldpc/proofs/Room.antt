@@ -1,0 +1,15 @@
+-- How a call of the C interface meets `Replies`: with too small an `out` it says so, else it gives the reply of its answer. Assumes nothing.
+use Prim.Native.Nat.{ℕ, _-_, _^_, _≤_, _<_}
+use mathlib.Core.Path.{_≡_, refl}
+use mathlib.Core.List.{List}
+use native.Mathlib.Omega.{arith}
+use lib.ListN.{length}
+use Rattle.qcldpc.specs.Door.{Reply, Replies}
+
+module _ {A : Type 0} {Right : A → Type 0} {reply : A → List ℕ → Reply} {out : List ℕ} where
+  pub no-room : length out < 32 → Replies A Right reply out (2 ^ 64 - 1) out
+  no-room h = record { small = λ _. (refl, refl); large = λ r. let z : ⊥ = omega arith in absurd z }
+
+  pub replied : {code : ℕ} {left : List ℕ} (a : A) → Right a → 32 ≤ length out →
+      (code ≡ reply a out .code) × (left ≡ reply a out .out) → Replies A Right reply out code left
+  replied a right r e = record { small = λ h. let z : ⊥ = omega arith in absurd z; large = λ _. (a, right, e .0, e .1) }
