@@ -1,10 +1,11 @@
--- How a call of the C interface meets `Replies`: with too small an `out` it says so, else it gives the reply of its answer. Assumes nothing.
+-- How a call of the C interface meets `Replies` and `Leaves`: with too small an `out` it says so and leaves lent memory as it is,
+-- else it gives the reply of its answer, and the memory is as the called function leaves it. Assumes nothing.
 use Prim.Native.Nat.{ℕ, _-_, _^_, _≤_, _<_}
 use mathlib.Core.Path.{_≡_, refl}
 use mathlib.Core.List.{List}
 use native.Mathlib.Omega.{arith}
 use lib.ListN.{length}
-use Rattle.qcldpc.specs.Door.{Reply, Replies}
+use Rattle.qcldpc.specs.Door.{Reply, Replies, Leaves}
 
 module _ {A : Type 0} {Right : A → Type 0} {reply : A → List ℕ → Reply} {out : List ℕ} where
   pub no-room : length out < 32 → Replies A Right reply out (2 ^ 64 - 1) out
@@ -13,3 +14,10 @@ module _ {A : Type 0} {Right : A → Type 0} {reply : A → List ℕ → Reply} 
   pub replied : {code : ℕ} {left : List ℕ} (a : A) → Right a → 32 ≤ length out →
       (code ≡ reply a out .code) × (left ≡ reply a out .out) → Replies A Right reply out code left
   replied a right r e = record { small = λ h. let z : ⊥ = omega arith in absurd z; large = λ _. (a, right, e .0, e .1) }
+
+module _ {A : Type 0} {out : List ℕ} {want lent : List A} where
+  pub kept : length out < 32 → Leaves out want lent lent
+  kept h = record { small = λ _. refl; large = λ r. let z : ⊥ = omega arith in absurd z }
+
+  pub changed : {left : List A} → 32 ≤ length out → left ≡ want → Leaves out want lent left
+  changed r e = record { small = λ h. let z : ⊥ = omega arith in absurd z; large = λ _. e }

@@ -1,12 +1,23 @@
 // The C interface of the library, for Rust and C: `rt staticlib qcldpc`.
 // Each function returns 0, or the number of a refusal (document 01, "Turned away"), and puts values into `out` (specs/Door.antt).
 ghost use mathlib.Core.Path.{_≡_};
+ghost use lib.ListN.{length};
 ghost use Rattle.refusal.specs.Lowest.{lowest};
 ghost use Rattle.exponent.specs.declared.Validity.{Validity};
 ghost use Rattle.exponent.specs.Limits.{planRules, validity};
 ghost use Rattle.girth.specs.declared.GirthTest.{GirthTest};
 ghost use Rattle.girth.specs.Test.{Answer};
-ghost use Rattle.qcldpc.specs.Door.{Replies, checkReply, girthReply};
+ghost use Rattle.peeling.specs.declared.Filling.{Filling};
+ghost use Rattle.peeling.specs.Fill.{fillAnswer, fillWord};
+ghost use Rattle.syndrome.specs.declared.Syndrome.{Syndrome};
+ghost use Rattle.syndrome.specs.Check.{syndromeOf};
+ghost use Rattle.table.specs.declared.Built.{Built};
+ghost use Rattle.table.specs.declared.Supplied.{Supplied};
+ghost use Rattle.table.specs.declared.supply.Family.the-variants.{Array, Cyclic};
+ghost use Rattle.table.specs.Table.{suppliedTable};
+ghost use Rattle.table.specs.Mask.{weight};
+ghost use Rattle.table.specs.Build.{lent, supplyRules, supplied, buildRules, builtPlan, built};
+ghost use Rattle.qcldpc.specs.Door.{Replies, Leaves, checkReply, girthReply, fillReply, syndromeReply, builtReply, suppliedReply};
 
 pub mod reply; // reply.rt: an answer as a number and values
 
@@ -57,4 +68,93 @@ pub extern "C" fn qcldpc_girth(
         target as usize,
     );
     reply::tested(t, out)
+}
+
+// The decoder: out[0] erasures were filled, out[1] are left.
+#[no_mangle]
+pub extern "C" fn qcldpc_fill(
+    plan: &[i16],
+    rows: u64,
+    cols: u64,
+    lift: u64,
+    word: &mut [u8],
+    out: &mut [u64],
+) -> u64
+    ensures answers { λ r. ⌜ Replies Filling (λ a. a ≡ fillAnswer (now (plan .entry)) rows cols lift (now (word .entry))) fillReply (now (out .entry)) r (now (out .exit)) ⌝ }
+    ensures leaves { λ _. ⌜ Leaves (now (out .entry)) (fillWord (now (plan .entry)) rows cols lift (now (word .entry))) (now (word .entry)) (now (word .exit)) ⌝ }
+{
+    if out.len() < PLACES {
+        return NO_ROOM;
+    }
+    let a = peeling::fill(plan, rows as usize, cols as usize, lift as usize, word);
+    reply::filled(a, out)
+}
+
+// The syndrome: out[0] is 0 where every check is even, else 1, with the lowest odd check in out[1].
+#[no_mangle]
+pub extern "C" fn qcldpc_syndrome(
+    plan: &[i16],
+    rows: u64,
+    cols: u64,
+    lift: u64,
+    word: &[u8],
+    out: &mut [u64],
+) -> u64
+    ensures { λ r. ⌜ Replies Syndrome (λ a. a ≡ syndromeOf (now (plan .entry)) rows cols lift (now (word .entry))) syndromeReply (now (out .entry)) r (now (out .exit)) ⌝ }
+{
+    if out.len() < PLACES {
+        return NO_ROOM;
+    }
+    let a = syndrome::check(plan, rows as usize, cols as usize, lift as usize, word);
+    reply::found(a, out)
+}
+
+// The plan of a table and a mask: out[0] rows and out[1] columns.
+#[no_mangle]
+pub extern "C" fn qcldpc_build(
+    order: u64,
+    lift: u64,
+    table: &[i16],
+    mask: &[u8],
+    plan: &mut [i16],
+    out: &mut [u64],
+) -> u64
+    ensures answers { λ r. ⌜ Replies Built (λ a. a ≡ built (lowest (buildRules order lift (now (table .entry)) (now (mask .entry)) (length (now (plan .entry)))))
+        order (weight order (now (mask .entry)))) builtReply (now (out .entry)) r (now (out .exit)) ⌝ }
+    ensures leaves { λ _. ⌜ Leaves (now (out .entry)) (lent (lowest (buildRules order lift (now (table .entry)) (now (mask .entry)) (length (now (plan .entry)))))
+        (builtPlan order lift (now (table .entry)) (now (mask .entry))) (now (plan .entry))) (now (plan .entry)) (now (plan .exit)) ⌝ }
+{
+    if out.len() < PLACES {
+        return NO_ROOM;
+    }
+    let a = table::build(order as usize, lift as usize, table, mask, plan);
+    reply::built(a, out)
+}
+
+// The array table.
+#[no_mangle]
+pub extern "C" fn qcldpc_array_table(order: u64, table: &mut [i16], out: &mut [u64]) -> u64
+    ensures answers { λ r. ⌜ Replies Supplied (λ a. a ≡ supplied (lowest (supplyRules order (length (now (table .entry)))))) suppliedReply (now (out .entry)) r (now (out .exit)) ⌝ }
+    ensures leaves { λ _. ⌜ Leaves (now (out .entry)) (lent (lowest (supplyRules order (length (now (table .entry)))))
+        (suppliedTable Array order) (now (table .entry))) (now (table .entry)) (now (table .exit)) ⌝ }
+{
+    if out.len() < PLACES {
+        return NO_ROOM;
+    }
+    let a = table::array(order as usize, table);
+    reply::supplied(a, out)
+}
+
+// The cyclic table.
+#[no_mangle]
+pub extern "C" fn qcldpc_cyclic_table(order: u64, table: &mut [i16], out: &mut [u64]) -> u64
+    ensures answers { λ r. ⌜ Replies Supplied (λ a. a ≡ supplied (lowest (supplyRules order (length (now (table .entry)))))) suppliedReply (now (out .entry)) r (now (out .exit)) ⌝ }
+    ensures leaves { λ _. ⌜ Leaves (now (out .entry)) (lent (lowest (supplyRules order (length (now (table .entry)))))
+        (suppliedTable Cyclic order) (now (table .entry))) (now (table .entry)) (now (table .exit)) ⌝ }
+{
+    if out.len() < PLACES {
+        return NO_ROOM;
+    }
+    let a = table::cyclic(order as usize, table);
+    reply::supplied(a, out)
 }

@@ -1,13 +1,17 @@
 use exponent::Validity;
 use girth::GirthTest;
 use girth::Outcome;
+use peeling::Filling;
 use refusal::Refusal;
 use refusal::numbers;
+use syndrome::Syndrome;
+use table::Built;
+use table::Supplied;
 ghost use mathlib.Core.Path.{_≡_};
 ghost use Prim.Native.Nat.{_+_, _≤_};
 ghost use lib.ListN.{length};
 ghost use lib.Seq.{sets};
-ghost use Rattle.qcldpc.specs.Door.{refusal, checkReply, witnessReply, girthReply};
+ghost use Rattle.qcldpc.specs.Door.{refusal, checkReply, witnessReply, girthReply, pairReply, fillReply, syndromeReply, builtReply, suppliedReply};
 
 // Writes all of `from` into `out`, from place `at` on.
 fn put(out: &mut [u64], at: usize, from: &[usize])
@@ -71,5 +75,68 @@ pub fn tested(t: GirthTest, out: &mut [u64]) -> u64
         Outcome::Refused(r) => refused(r, out),
         Outcome::Passed => witness(t, out),
         Outcome::Failed => witness(t, out),
+    }
+}
+
+// Two numbers, into the first two places.
+fn pair(a: usize, b: usize, out: &mut [u64]) -> u64
+    requires { ⌜ 32 ≤ length (now out) ⌝ }
+    ensures code { λ n. ⌜ n ≡ pairReply a b (now (out .entry)) .code ⌝ }
+    ensures left { λ _. ⌜ now (out .exit) ≡ pairReply a b (now (out .entry)) .out ⌝ }
+{
+    out[0] = a as u64;
+    out[1] = b as u64;
+    0
+}
+
+// The decoder.
+pub fn filled(f: Filling, out: &mut [u64]) -> u64
+    requires { ⌜ 32 ≤ length (now out) ⌝ }
+    ensures code { λ n. ⌜ n ≡ fillReply f (now (out .entry)) .code ⌝ }
+    ensures left { λ _. ⌜ now (out .exit) ≡ fillReply f (now (out .entry)) .out ⌝ }
+{
+    match f {
+        Filling::Filled { filled, left } => pair(filled, left, out),
+        Filling::Refused(r) => refused(r, out),
+    }
+}
+
+// The syndrome.
+pub fn found(s: Syndrome, out: &mut [u64]) -> u64
+    requires { ⌜ 32 ≤ length (now out) ⌝ }
+    ensures code { λ n. ⌜ n ≡ syndromeReply s (now (out .entry)) .code ⌝ }
+    ensures left { λ _. ⌜ now (out .exit) ≡ syndromeReply s (now (out .entry)) .out ⌝ }
+{
+    match s {
+        Syndrome::Even => {
+            out[0] = 0;
+            0
+        }
+        Syndrome::Odd(c) => pair(1, c, out),
+        Syndrome::Refused(r) => refused(r, out),
+    }
+}
+
+// The builder.
+pub fn built(b: Built, out: &mut [u64]) -> u64
+    requires { ⌜ 32 ≤ length (now out) ⌝ }
+    ensures code { λ n. ⌜ n ≡ builtReply b (now (out .entry)) .code ⌝ }
+    ensures left { λ _. ⌜ now (out .exit) ≡ builtReply b (now (out .entry)) .out ⌝ }
+{
+    match b {
+        Built::Built { rows, cols } => pair(rows, cols, out),
+        Built::Refused(r) => refused(r, out),
+    }
+}
+
+// A supplied table.
+pub fn supplied(s: Supplied, out: &mut [u64]) -> u64
+    requires { ⌜ 32 ≤ length (now out) ⌝ }
+    ensures code { λ n. ⌜ n ≡ suppliedReply s (now (out .entry)) .code ⌝ }
+    ensures left { λ _. ⌜ now (out .exit) ≡ suppliedReply s (now (out .entry)) .out ⌝ }
+{
+    match s {
+        Supplied::Supplied => 0,
+        Supplied::Refused(r) => refused(r, out),
     }
 }

@@ -1,0 +1,7 @@
+pub mod Unmarking
+pub mod Waiting
+pub mod Steps
+pub mod Ends
+pub mod Meaning
+pub mod Rules
+pub mod Cases
