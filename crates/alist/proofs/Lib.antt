@@ -1,0 +1,11 @@
+pub mod Digits
+pub mod Laid
+pub mod Lanes
+pub mod Runs
+pub mod Rest
+pub mod Weights
+pub mod Reading
+pub mod Bounds
+pub mod Answers
+pub mod Roundtrip
+pub mod Bench

@@ -1,0 +1,63 @@
+-- `alist::verify::compare_from` meets its contract. Assumes nothing.
+use mathlib.Core.Path.{ap, _∙_}
+use borrow.Author.Needs.{needs}
+use Rattle.exponent.specs.declared.index.Shape.{Shape}
+use Rattle.alist.specs.Alist.{linesOf}
+use Rattle.alist.specs.Text.{numbersOf}
+use Rattle.alist.specs.Tokens.{mismatch}
+use Rattle.alist.specs.Sides.{graph}
+use Rattle.alist.specs.Steps.{verdict}
+use Rattle.alist.proofs.Lanes.{index-room}
+use Rattle.alist.proofs.verify.compare_from.Statement.{statement}
+use Rattle.alist.proofs.verify.compare_from.Tie as tie
+
+slice-aggregate-build : tie.Need-slice-aggregate-build
+slice-aggregate-build c = search needs
+
+slice-aggregate-build-2 : tie.Need-slice-aggregate-build-2
+slice-aggregate-build-2 c = search needs
+
+build-requires : tie.Need-build-requires
+build-requires c κs =
+    let t = c .before .before .before in
+    let h = index-room (t .args .plan .now) (t .args .s) (t .pre .0) in
+    (t .pre .0, h, h)
+
+slice-aggregate-measure : tie.Need-slice-aggregate-measure
+slice-aggregate-measure c = search needs
+
+slice-aggregate-measure-2 : tie.Need-slice-aggregate-measure-2
+slice-aggregate-measure-2 c = search needs
+
+measure-requires : tie.Need-measure-requires
+measure-requires c κs = search needs
+
+slice-aggregate-compare-lines : tie.Need-slice-aggregate-compare-lines
+slice-aggregate-compare-lines c = search needs
+
+slice-aggregate-compare-lines-2 : tie.Need-slice-aggregate-compare-lines-2
+slice-aggregate-compare-lines-2 c = search needs
+
+compare-lines-requires : tie.Need-compare-lines-requires
+compare-lines-requires c κs = search needs
+
+returns : tie.Need-returns
+returns c =
+    let m = c .before .before .before in
+    let a = m .before .before .before .before .before .before .before .before .before .args in
+    c .compare-lines .ensures ∙ ap (λ (s : Shape). verdict (mismatch (a .text .now) (a .c .at) (numbersOf (linesOf (graph (a .plan .now) s))))) (m .measure .ensures .0)
+
+pub compare-from-spec : {M : Type 1} → statement M
+compare-from-spec =
+    tie.close
+    (tie.spec
+    slice-aggregate-build
+    slice-aggregate-build-2
+    build-requires
+    slice-aggregate-measure
+    slice-aggregate-measure-2
+    measure-requires
+    slice-aggregate-compare-lines
+    slice-aggregate-compare-lines-2
+    compare-lines-requires
+    returns)

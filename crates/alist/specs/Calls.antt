@@ -1,0 +1,60 @@
+-- The answers of the two calls: refusals 1 to 6 and 17, and 1 to 6 and 21 (document 01, "Turned away").
+use Prim.Native.Nat.{ℕ}
+use mathlib.Core.Bool.{Bool, true, false}
+use mathlib.Core.List.{List, [], _∷_, _++_}
+use mathlib.Core.Option.{Option, none, some}
+use lib.Dec.{ltb}
+use lib.IntN.{ℤ}
+use lib.ListN.{length, drop}
+use Rattle.refusal.specs.declared.Refusal.{Refusal}
+use Rattle.refusal.specs.declared.Refusal.the-variants.{TextPlace, Token}
+use Rattle.refusal.specs.Lowest.{Rule, refuse}
+use Rattle.exponent.specs.Limits.{planRules}
+use Rattle.alist.specs.declared.Written.{Written}
+use Rattle.alist.specs.declared.Written.the-variants as answer
+use Rattle.alist.specs.declared.Comparison.{Comparison}
+use Rattle.alist.specs.declared.Comparison.the-variants.{Agrees, Refused}
+use Rattle.alist.specs.Alist.{alist}
+use Rattle.alist.specs.Text.{textOf, numbersOf}
+use Rattle.alist.specs.Tokens.{mismatch}
+
+-- the alist of a plan as text
+abbrev pub alistText : List ℤ → ℕ → ℕ → ℕ → List ℕ
+alistText plan rows cols lift = textOf (alist plan rows cols lift)
+
+-- 17: the place is too short, with the length needed
+abbrev pub roomRules : List ℕ → List ℕ → List Rule
+roomRules text place = refuse (TextPlace (length text)) (ltb (length place) (length text)) ∷ []
+
+unfoldable pub writeRules : List ℤ → ℕ → ℕ → ℕ → List ℕ → List Rule
+writeRules plan rows cols lift place = planRules plan rows cols lift ++ roomRules (alistText plan rows cols lift) place
+
+-- the answer of `write`: the text's length, or a refusal
+abbrev pub written : ℕ → Option Refusal → Written
+written n none = answer.Written n
+written n (some r) = answer.Refused r
+
+-- what the place then holds: the text and, past it, the bytes as they were; on a refusal all stays
+abbrev pub laid : Option Refusal → List ℕ → List ℕ → List ℕ
+laid none text place = text ++ drop (length text) place
+laid (some r) text place = place
+
+-- 21: the place of a mismatch, where there is one
+abbrev pub found : Option ℕ → Bool
+found none = false
+found (some place) = true
+
+abbrev pub placeOf : Option ℕ → ℕ
+placeOf none = 0
+placeOf (some place) = place
+
+abbrev pub tokenRules : Option ℕ → List Rule
+tokenRules wrong = refuse (Token (placeOf wrong)) (found wrong) ∷ []
+
+unfoldable pub compareRules : List ℤ → ℕ → ℕ → ℕ → List ℕ → List Rule
+compareRules plan rows cols lift text = planRules plan rows cols lift ++ tokenRules (mismatch text 0 (numbersOf (alist plan rows cols lift)))
+
+-- the answer of `compare`
+abbrev pub comparison : Option Refusal → Comparison
+comparison none = Agrees
+comparison (some r) = Refused r
