@@ -1,3 +1,4 @@
+pub mod Computed
 pub mod Found
 pub mod Link
 pub mod OneRow

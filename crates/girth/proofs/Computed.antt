@@ -1,0 +1,54 @@
+-- The girth lines of document 01's bench cases: the model's answer, computed. Assumes nothing.
+use Prim.Native.Nat.{ℕ}
+use mathlib.Core.Path.{_≡_, refl}
+use mathlib.Core.List.{List, [], _∷_}
+use lib.IntN.{ℤ, pos}
+use Rattle.refusal.specs.declared.Refusal.the-variants.{Lift}
+use Rattle.refusal.specs.Lowest.{lowest}
+use Rattle.refusal.specs.Place.{firstPlace}
+use Rattle.graph.specs.Count.{member}
+use Rattle.exponent.specs.Limits.{planRules}
+use Rattle.exponent.specs.Plan.{entryAt, blockAt}
+use Rattle.girth.specs.declared.GirthTest.{GirthTest}
+use Rattle.girth.specs.declared.Outcome.the-variants.{Passed, Failed, Refused}
+use Rattle.girth.specs.Test.{allowed, testRules, without-witness}
+use Rattle.girth.specs.Search.{firstOf, atCheck, closedWalk, trail, shortest, model}
+
+pub record Case : Type 0 where
+  pub plan : List ℤ
+  pub rows : ℕ
+  pub cols : ℕ
+  pub lift : ℕ
+  pub target : ℕ
+  pub answer : GirthTest
+
+abbrev entries : List ℕ → List ℤ
+entries [] = []
+entries (e ∷ l) = pos e ∷ entries l
+
+abbrev case : List ℕ → ℕ → ℕ → ℕ → ℕ → GirthTest → Case
+case l rows cols lift target answer = record { plan = entries l; rows = rows; cols = cols; lift = lift; target = target; answer = answer }
+
+abbrev shows : ℕ → List ℕ → List ℕ → GirthTest
+shows n checks bits = record { outcome = Failed; n = n; checks = checks; bits = bits }
+
+-- the 2 × 2 plan of zeros; 0 0 / 0 1, which closes on the second round at lift 2; 0 0 / 0 2; 002's example 1; one row; lift 4,097
+abbrev pub cases : List Case
+cases =
+    case (0 ∷ 0 ∷ 0 ∷ 0 ∷ []) 2 2 1 6 (shows 2 (0 ∷ 1 ∷ 0 ∷ 0 ∷ 0 ∷ []) (1 ∷ 0 ∷ 0 ∷ 0 ∷ 0 ∷ []))
+    ∷ case (0 ∷ 0 ∷ 0 ∷ 1 ∷ []) 2 2 2 8 (without-witness Passed)
+    ∷ case (0 ∷ 0 ∷ 0 ∷ 1 ∷ []) 2 2 2 10 (shows 4 (0 ∷ 3 ∷ 1 ∷ 2 ∷ 0 ∷ []) (2 ∷ 1 ∷ 3 ∷ 0 ∷ 0 ∷ []))
+    ∷ case (0 ∷ 0 ∷ 0 ∷ 1 ∷ []) 2 2 3 12 (without-witness Passed)
+    ∷ case (0 ∷ 0 ∷ 0 ∷ 2 ∷ []) 2 2 4 10 (shows 4 (0 ∷ 6 ∷ 2 ∷ 4 ∷ 0 ∷ []) (4 ∷ 2 ∷ 6 ∷ 0 ∷ 0 ∷ []))
+    ∷ case (0 ∷ 0 ∷ 0 ∷ 0 ∷ 0 ∷ 0 ∷ 1 ∷ 1 ∷ 0 ∷ 1 ∷ 0 ∷ 1 ∷ []) 3 4 2 6 (shows 2 (0 ∷ 2 ∷ 0 ∷ 0 ∷ 0 ∷ []) (2 ∷ 0 ∷ 0 ∷ 0 ∷ 0 ∷ []))
+    ∷ case (0 ∷ 0 ∷ 0 ∷ []) 1 3 4096 12 (without-witness Passed)
+    ∷ case (0 ∷ []) 1 1 4097 12 (without-witness (Refused Lift))
+    ∷ []
+
+abbrev pub Computed : List Case → Type 0
+Computed [] = Unit {0}
+Computed (c ∷ l) = (model (c .plan) (c .rows) (c .cols) (c .lift) (c .target) ≡ c .answer) × Computed l
+
+pub computed : Computed cases
+unfolding model lowest testRules planRules firstPlace allowed member entryAt blockAt shortest closedWalk firstOf atCheck trail
+computed = (refl, (refl, (refl, (refl, (refl, (refl, (refl, (refl, tt))))))))
