@@ -7,6 +7,10 @@ use lib.ListN.{length}
 use lib.Seq.{sets}
 use Rattle.refusal.specs.declared.Refusal.{Refusal}
 use Rattle.refusal.specs.Number.{number, values}
+use Rattle.alist.specs.declared.Written.{Written as WrittenAnswer}
+use Rattle.alist.specs.declared.Written.the-variants.{Written, Refused as NotWritten}
+use Rattle.alist.specs.declared.Comparison.{Comparison}
+use Rattle.alist.specs.declared.Comparison.the-variants.{Agrees, Refused as NotAgreed}
 use Rattle.exponent.specs.declared.Validity.{Validity}
 use Rattle.exponent.specs.declared.Validity.the-variants.{Valid, Refused}
 use Rattle.girth.specs.declared.GirthTest.{GirthTest}
@@ -71,6 +75,16 @@ builtReply (NotBuilt r) out = refusal r out
 abbrev pub suppliedReply : SuppliedAnswer → List ℕ → Reply
 suppliedReply Supplied out = record { code = 0; out = out }
 suppliedReply (NotSupplied r) out = refusal r out
+
+-- the writer of alist text: the text's length
+abbrev pub writtenReply : WrittenAnswer → List ℕ → Reply
+writtenReply (Written n) out = record { code = 0; out = sets out 0 (n ∷ []) }
+writtenReply (NotWritten r) out = refusal r out
+
+-- the comparer of alist text: nothing but whether it is refused
+abbrev pub comparedReply : Comparison → List ℕ → Reply
+comparedReply Agrees out = record { code = 0; out = out }
+comparedReply (NotAgreed r) out = refusal r out
 
 -- too small an `out`
 abbrev pub noRoom : List ℕ → Reply

@@ -3,6 +3,9 @@
 ghost use mathlib.Core.Path.{_≡_};
 ghost use lib.ListN.{length};
 ghost use Rattle.refusal.specs.Lowest.{lowest};
+ghost use Rattle.alist.specs.declared.Written.{Written};
+ghost use Rattle.alist.specs.declared.Comparison.{Comparison};
+ghost use Rattle.alist.specs.Calls.{alistText, writeRules, written, laid, compareRules, comparison};
 ghost use Rattle.exponent.specs.declared.Validity.{Validity};
 ghost use Rattle.exponent.specs.Limits.{planRules, validity};
 ghost use Rattle.girth.specs.declared.GirthTest.{GirthTest};
@@ -17,7 +20,7 @@ ghost use Rattle.table.specs.declared.supply.Family.the-variants.{Array, Cyclic
 ghost use Rattle.table.specs.Table.{suppliedTable};
 ghost use Rattle.table.specs.Mask.{weight};
 ghost use Rattle.table.specs.Build.{lent, supplyRules, supplied, buildRules, builtPlan, built};
-ghost use Rattle.qcldpc.specs.Door.{Replies, Leaves, checkReply, girthReply, fillReply, syndromeReply, builtReply, suppliedReply};
+ghost use Rattle.qcldpc.specs.Door.{Replies, Leaves, checkReply, girthReply, fillReply, syndromeReply, builtReply, suppliedReply, writtenReply, comparedReply};
 
 pub mod reply; // reply.rt: an answer as a number and values
 
@@ -157,4 +160,45 @@ pub extern "C" fn qcldpc_cyclic_table(order: u64, table: &mut [i16], out: &mut [
     }
     let a = table::cyclic(order as usize, table);
     reply::supplied(a, out)
+}
+
+// The alist of a plan, into a lent place: out[0] is its length.
+#[no_mangle]
+pub extern "C" fn qcldpc_alist_write(
+    plan: &[i16],
+    rows: u64,
+    cols: u64,
+    lift: u64,
+    text: &mut [u8],
+    out: &mut [u64],
+) -> u64
+    ensures answers { λ r. ⌜ Replies Written (λ a. a ≡ written (length (alistText (now (plan .entry)) rows cols lift)) (lowest (writeRules (now (plan .entry)) rows cols lift (now (text .entry)))))
+        writtenReply (now (out .entry)) r (now (out .exit)) ⌝ }
+    ensures leaves { λ _. ⌜ Leaves (now (out .entry)) (laid (lowest (writeRules (now (plan .entry)) rows cols lift (now (text .entry)))) (alistText (now (plan .entry)) rows cols lift) (now (text .entry)))
+        (now (text .entry)) (now (text .exit)) ⌝ }
+{
+    if out.len() < PLACES {
+        return NO_ROOM;
+    }
+    let a = alist::write(plan, rows as usize, cols as usize, lift as usize, text);
+    reply::written(a, out)
+}
+
+// A lent text against the alist of a plan.
+#[no_mangle]
+pub extern "C" fn qcldpc_alist_compare(
+    plan: &[i16],
+    rows: u64,
+    cols: u64,
+    lift: u64,
+    text: &[u8],
+    out: &mut [u64],
+) -> u64
+    ensures { λ r. ⌜ Replies Comparison (λ a. a ≡ comparison (lowest (compareRules (now (plan .entry)) rows cols lift (now (text .entry))))) comparedReply (now (out .entry)) r (now (out .exit)) ⌝ }
+{
+    if out.len() < PLACES {
+        return NO_ROOM;
+    }
+    let a = alist::compare(plan, rows as usize, cols as usize, lift as usize, text);
+    reply::compared(a, out)
 }

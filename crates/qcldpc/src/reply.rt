@@ -1,3 +1,5 @@
+use alist::Comparison;
+use alist::Written;
 use exponent::Validity;
 use girth::GirthTest;
 use girth::Outcome;
@@ -11,7 +13,7 @@ ghost use mathlib.Core.Path.{_≡_};
 ghost use Prim.Native.Nat.{_+_, _≤_};
 ghost use lib.ListN.{length};
 ghost use lib.Seq.{sets};
-ghost use Rattle.qcldpc.specs.Door.{refusal, checkReply, witnessReply, girthReply, pairReply, fillReply, syndromeReply, builtReply, suppliedReply};
+ghost use Rattle.qcldpc.specs.Door.{refusal, checkReply, witnessReply, girthReply, pairReply, fillReply, syndromeReply, builtReply, suppliedReply, writtenReply, comparedReply};
 
 // Writes all of `from` into `out`, from place `at` on.
 fn put(out: &mut [u64], at: usize, from: &[usize])
@@ -138,5 +140,32 @@ pub fn supplied(s: Supplied, out: &mut [u64]) -> u64
     match s {
         Supplied::Supplied => 0,
         Supplied::Refused(r) => refused(r, out),
+    }
+}
+
+// The writer of alist text.
+pub fn written(w: Written, out: &mut [u64]) -> u64
+    requires { ⌜ 32 ≤ length (now out) ⌝ }
+    ensures code { λ n. ⌜ n ≡ writtenReply w (now (out .entry)) .code ⌝ }
+    ensures left { λ _. ⌜ now (out .exit) ≡ writtenReply w (now (out .entry)) .out ⌝ }
+{
+    match w {
+        Written::Written(n) => {
+            out[0] = n as u64;
+            0
+        }
+        Written::Refused(r) => refused(r, out),
+    }
+}
+
+// The comparer of alist text.
+pub fn compared(c: Comparison, out: &mut [u64]) -> u64
+    requires { ⌜ 32 ≤ length (now out) ⌝ }
+    ensures code { λ n. ⌜ n ≡ comparedReply c (now (out .entry)) .code ⌝ }
+    ensures left { λ _. ⌜ now (out .exit) ≡ comparedReply c (now (out .entry)) .out ⌝ }
+{
+    match c {
+        Comparison::Agrees => 0,
+        Comparison::Refused(r) => refused(r, out),
     }
 }
