@@ -14,12 +14,12 @@ use Rattle.exponent.specs.declared.Validity.{Validity}
 use Rattle.exponent.specs.declared.Validity.the-variants.{Valid, Refused}
 use Rattle.exponent.specs.Limits.{planRules, validity, WellFormed}
 use Rattle.exponent.proofs.Rules.{accepted, valid-none, refused-some}
+use Rattle.tokens.specs.Tokens.{mismatch}
+use Rattle.lines.specs.Alist.{alist}
 use Rattle.alist.specs.declared.Comparison.the-variants as answer
 use Rattle.alist.specs.declared.Comparison.the-variants.{Agrees}
 use Rattle.alist.specs.declared.verify.Verdict.the-variants.{Same, Differs}
-use Rattle.alist.specs.Alist.{alist}
 use Rattle.alist.specs.Text.{numbersOf}
-use Rattle.alist.specs.Tokens.{mismatch}
 use Rattle.alist.specs.Calls.{alistText, roomRules, writeRules, tokenRules, compareRules, comparison}
 use Rattle.alist.specs.Steps.{verdict}
 

@@ -1,13 +1,12 @@
--- The alist's text is far shorter than 2 ^ 64: no number of it and no line's length is above 786432. Assumes nothing.
-use Prim.Native.Nat.{ℕ, zero, suc, _+_, _*_, _/_, _%_, _≤_, _<_, _^_}
-use mathlib.Core.Path.{_≡_, refl, ap, _∙_}
+-- How long the alist's text is at most: no number of it is above 786432. Assumes nothing.
+use Prim.Native.Nat.{ℕ, zero, suc, _+_, _*_, _/_, _≤_, _<_, _^_}
+use mathlib.Core.Path.{_≡_, refl, sym, ap, _∙_}
 use mathlib.Core.Logic.{inl, inr}
-use mathlib.Core.List.{List, [], _∷_, map}
+use mathlib.Core.List.{List, [], _∷_, _++_, map}
 use native.Mathlib.Omega.{arith}
-use native.Mathlib.Nat.{mul-le-mul}
+use native.Mathlib.Nat.{mul-le-mul, suc-mul}
 use lib.IntN.{ℤ}
 use lib.ListN.{length, length-append, length-map}
-use borrow.Author.Tests.{lt-ltb, le-ltb}
 use Rattle.graph.specs.Count.{below}
 use Rattle.graph.specs.Graph.{Bipartite, bitsOf, checksOf}
 use Rattle.graph.proofs.Decide.{by-le}
@@ -16,49 +15,67 @@ use Rattle.graph.proofs.Count.{mem-select, length-map-below, length-range}
 use Rattle.graph.proofs.Neighbours.{mem-below}
 use Rattle.exponent.specs.declared.index.Shape.{Shape}
 use Rattle.exponent.specs.Limits.{WellFormed}
-use Rattle.alist.specs.declared.sides.Side.{Side}
-use Rattle.alist.specs.declared.sides.Side.the-variants.{Bits, Checks}
-use Rattle.alist.specs.Decimal.{digit, digits, decimal}
-use Rattle.alist.specs.Alist.{nodes, neighbours, degrees, greatest, fill, lists, linesOf}
-use Rattle.alist.specs.Text.{item, lineFrom, textOf}
-use Rattle.alist.specs.Sides.{graph, blocks, nodeCount}
-use Rattle.alist.proofs.Lanes.{small, nodes-of, blocks-few, weight-le, degree-weight}
-use Rattle.alist.proofs.Weights.{most-few}
+use Rattle.lines.specs.declared.Layout.{Layout}
+use Rattle.lines.specs.declared.sides.Side.{Side}
+use Rattle.lines.specs.declared.sides.Side.the-variants.{Bits, Checks}
+use Rattle.tokens.specs.Decimal.{decimal}
+use Rattle.lines.specs.Alist.{nodes, neighbours, degrees, greatest, fill, lists, linesOf}
+use Rattle.alist.specs.Text.{item, lineFrom, textOf, numbersOf}
+use Rattle.lines.specs.Sides.{graph, blocks, nodeCount}
+use Rattle.lines.specs.Lines.{Measured}
+use Rattle.alist.specs.Steps.{mostBytes}
+use Rattle.tokens.proofs.Digits.{length-small, length-below, length-four}
+use Rattle.lines.proofs.Lanes.{small, nodes-of, blocks-few, weight-le, degree-weight}
+use Rattle.lines.proofs.Weights.{most-few}
 
--- a line has few numbers, and they are small
-pub record Short (line : List ℕ) : Type 0 where
-  pub few : length line ≤ 786432
-  pub low : (x : ℕ) → Mem x line → x ≤ 786432
+-- the numbers of a line are small
+abbrev Low : List ℕ → Type 0
+Low line = (x : ℕ) → Mem x line → x ≤ 786432
 
--- Its text.
+-- Its text: six digits and a space for each number at most, and a line feed for each line.
 
-digits-le : (k n : ℕ) → length (digits k n) ≤ suc k
-unfolding digits
-digits-le zero n = omega arith
-digits-le (suc k) n =
-    by-le 10 n
-    (λ h. rw (le-ltb n 10 h) (omega (arith, digits-le k (n / 10), length-append (digits k (n / 10)) (digit (n % 10) ∷ []))))
-    (λ h. rw (lt-ltb n 10 h) (omega arith))
+decimal-le : (n : ℕ) → n ≤ 786432 → length (decimal n) ≤ 6
+decimal-le n h = by-le 10000 n (λ g. omega (arith, length-four n (omega arith), two (n / 10000) (omega arith))) (λ g. omega (arith, four n g))
+  where
+    two : (m : ℕ) → m < 100 → length (decimal m) ≤ 2
+    two m g = by-le 10 m (λ h. omega (arith, length-below m .0 (h, g))) (λ h. omega (arith, length-small m h))
 
-item-le : (k n : ℕ) → length (item k n) ≤ n + 2
-unfolding item decimal
-item-le zero n = omega (arith, digits-le n n)
-item-le (suc k) n = omega (arith, digits-le n n)
+    four : (m : ℕ) → m < 10000 → length (decimal m) ≤ 4
+    four m g =
+        by-le 1000 m
+        (λ h. omega (arith, length-below m .2 (h, g)))
+        (λ h. by-le 100 m (λ k. omega (arith, length-below m .1 (k, h))) (λ k. omega (arith, two m k)))
 
-lineFrom-le : (k : ℕ) (line : List ℕ) → ((x : ℕ) → Mem x line → x ≤ 786432) → length (lineFrom k line) ≤ 1 + length line * 786434
+item-le : (k n : ℕ) → n ≤ 786432 → length (item k n) ≤ 7
+unfolding item
+item-le zero n h = omega (arith, decimal-le n h)
+item-le (suc k) n h = omega (arith, decimal-le n h)
+
+lineFrom-le : (k : ℕ) (line : List ℕ) → Low line → length (lineFrom k line) ≤ 1 + 7 * length line
 unfolding lineFrom
 lineFrom-le k [] low = omega arith
 lineFrom-le k (x ∷ line) low =
-    omega (arith, length-append (item k x) (lineFrom (suc k) line), item-le k x, low x (inl refl), lineFrom-le (suc k) line (λ y m. low y (inr m)))
+    omega (arith, length-append (item k x) (lineFrom (suc k) line), item-le k x (low x (inl refl)), lineFrom-le (suc k) line (λ y m. low y (inr m)))
 
-textOf-le : (lines : List (List ℕ)) → ((line : List ℕ) → Mem line lines → Short line) → length (textOf lines) ≤ length lines * 618476863489
-unfolding textOf
+textOf-le : (lines : List (List ℕ)) → ((line : List ℕ) → Mem line lines → Low line) → length (textOf lines) ≤ length lines + 7 * length (numbersOf lines)
+unfolding textOf numbersOf
 textOf-le [] h = omega arith
 textOf-le (line ∷ lines) h =
-    let s = h line (inl refl) in
-    omega (arith, length-append (lineFrom 0 line) (textOf lines), lineFrom-le 0 line (s .low), s .few, textOf-le lines (λ l m. h l (inr m)))
+    omega (arith, length-append (lineFrom 0 line) (textOf lines), length-append line (numbersOf lines), lineFrom-le 0 line (h line (inl refl)), textOf-le lines (λ l m. h l (inr m)))
 
--- Every line of the alist is short.
+-- How many numbers some lines have.
+
+numbers-append : (a b : List (List ℕ)) → length (numbersOf (a ++ b)) ≡ length (numbersOf a) + length (numbersOf b)
+unfolding numbersOf
+numbers-append [] b = omega arith
+numbers-append (line ∷ a) b = omega (arith, length-append line (numbersOf (a ++ b)), length-append line (numbersOf a), numbers-append a b)
+
+numbers-map : (f : ℕ → List ℕ) (w : ℕ) → ((x : ℕ) → length (f x) ≡ w) → (xs : List ℕ) → length (numbersOf (map f xs)) ≡ length xs * w
+unfolding numbersOf
+numbers-map f w h [] = omega arith
+numbers-map f w h (x ∷ xs) = omega (arith, length-append (f x) (numbersOf (map f xs)), h x, numbers-map f w h xs, suc-mul (length xs) w)
+
+-- Every number of the alist is small.
 
 length-fill : (w : ℕ) (l : List ℕ) → length (fill w l) ≡ w
 unfolding fill
@@ -74,13 +91,10 @@ fill-low n (suc w) [] h x (inr m) = fill-low n w [] h x m
 fill-low n (suc w) (y ∷ l) h x (inl e) = omega (arith, h y (inl refl))
 fill-low n (suc w) (y ∷ l) h x (inr m) = fill-low n w l (λ z k. h z (inr k)) x m
 
-pair-short : (a b : ℕ) → a ≤ 786432 → b ≤ 786432 → Short (a ∷ b ∷ [])
-pair-short a b p q = record { few = omega arith; low = low }
-  where
-    low : (x : ℕ) → Mem x (a ∷ b ∷ []) → x ≤ 786432
-    low x (inl e) = omega arith
-    low x (inr (inl e)) = omega arith
-    low x (inr (inr m)) = absurd m
+pair-low : (a b : ℕ) → a ≤ 786432 → b ≤ 786432 → Low (a ∷ b ∷ [])
+pair-low a b p q x (inl e) = omega arith
+pair-low a b p q x (inr (inl e)) = omega arith
+pair-low a b p q x (inr (inr m)) = absurd m
 
 module _ (plan : List ℤ) (s : Shape) (w : WellFormed plan (s .rows) (s .cols) (s .lift)) where
   abbrev G : Bipartite
@@ -101,42 +115,94 @@ module _ (plan : List ℤ) (s : Shape) (w : WellFormed plan (s .rows) (s .cols) 
   neighbour-low Bits x y m = omega (arith, mem-below y (nodes G Checks) (mem-select (λ c. G .joins c x) y (below (nodes G Checks)) m .0), nodes-small Checks)
   neighbour-low Checks x y m = omega (arith, mem-below y (nodes G Bits) (mem-select (G .joins x) y (below (nodes G Bits)) m .0), nodes-small Bits)
 
-  degrees-short : (side : Side) → Short (degrees (graph plan s) side)
+  degrees-low : (side : Side) → Low (degrees (graph plan s) side)
   unfolding degrees
-  degrees-short side =
-      record {
-        few = omega (arith, length-map-below (λ x. length (neighbours G side x)) (nodes G side), nodes-small side);
-        low = each-image (λ x. length (neighbours G side x)) (λ n. n ≤ 786432) (below (nodes G side))
-            (λ x m. omega (arith, degree-weight plan s w side x, weight-le plan s side (x / s .lift), few-blocks side));
-      }
+  degrees-low side =
+      each-image (λ x. length (neighbours G side x)) (λ n. n ≤ 786432) (below (nodes G side))
+      (λ x m. omega (arith, degree-weight plan s w side x, weight-le plan s side (x / s .lift), few-blocks side))
 
-  lists-short : (side : Side) (line : List ℕ) → Mem line (lists (graph plan s) side) → Short line
+  lists-low : (side : Side) (line : List ℕ) → Mem line (lists (graph plan s) side) → Low line
   unfolding lists
-  lists-short side =
-      each-image (λ x. fill (greatest (degrees G side)) (map suc (neighbours G side x))) Short (below (nodes G side)) (λ x m.
-      record {
-        few = omega (arith, length-fill (greatest (degrees G side)) (map suc (neighbours G side x)), most-few plan s w side, few-blocks side);
-        low = fill-low 786432 (greatest (degrees G side)) (map suc (neighbours G side x)) (each-image suc (λ n. n ≤ 786432) (neighbours G side x) (neighbour-low side x));
-      })
+  lists-low side =
+      each-image (λ x. fill (greatest (degrees G side)) (map suc (neighbours G side x))) Low (below (nodes G side)) (λ x m.
+      fill-low 786432 (greatest (degrees G side)) (map suc (neighbours G side x)) (each-image suc (λ n. n ≤ 786432) (neighbours G side x) (neighbour-low side x)))
 
-  line-short : (line : List ℕ) → Mem line (linesOf (graph plan s)) → Short line
+  pub most-low : (side : Side) → greatest (degrees (graph plan s) side) ≤ 512
+  most-low side = omega (arith, most-few plan s w side, few-blocks side)
+
+  line-low : (line : List ℕ) → Mem line (linesOf (graph plan s)) → Low line
   unfolding linesOf
-  line-short line (inl e) = rw e (pair-short (nodes G Bits) (nodes G Checks) (nodes-small Bits) (nodes-small Checks))
-  line-short line (inr (inl e)) =
-      rw e
-      (pair-short (greatest (degrees G Bits)) (greatest (degrees G Checks)) (omega (arith, most-few plan s w Bits, few-blocks Bits))
-      (omega (arith, most-few plan s w Checks, few-blocks Checks)))
-  line-short line (inr (inr (inl e))) = rw e (degrees-short Bits)
-  line-short line (inr (inr (inr (inl e)))) = rw e (degrees-short Checks)
-  line-short line (inr (inr (inr (inr m)))) = mem-either Short (lists G Bits) (lists G Checks) (lists-short Bits) (lists-short Checks) line m
+  line-low line (inl e) = rw e (pair-low (nodes G Bits) (nodes G Checks) (nodes-small Bits) (nodes-small Checks))
+  line-low line (inr (inl e)) = rw e (pair-low (greatest (degrees G Bits)) (greatest (degrees G Checks)) (omega (arith, most-low Bits)) (omega (arith, most-low Checks)))
+  line-low line (inr (inr (inl e))) = rw e (degrees-low Bits)
+  line-low line (inr (inr (inr (inl e)))) = rw e (degrees-low Checks)
+  line-low line (inr (inr (inr (inr m)))) = mem-either Low (lists G Bits) (lists G Checks) (lists-low Bits) (lists-low Checks) line m
+
+  -- How long the text is at most.
 
   length-lists : (side : Side) → length (lists (graph plan s) side) ≡ nodes (graph plan s) side
   unfolding lists
   length-lists side = length-map (below (nodes G side)) (λ x. fill (greatest (degrees G side)) (map suc (neighbours G side x))) ∙ length-range 0 (nodes G side)
 
-  lines-few : length (linesOf (graph plan s)) ≤ 1572868
+  numbers-lists : (side : Side) → length (numbersOf (lists (graph plan s) side)) ≡ nodes (graph plan s) side * greatest (degrees (graph plan s) side)
+  unfolding lists
+  numbers-lists side =
+      numbers-map (λ x. fill (greatest (degrees G side)) (map suc (neighbours G side x))) (greatest (degrees G side))
+      (λ x. length-fill (greatest (degrees G side)) (map suc (neighbours G side x))) (below (nodes G side))
+      ∙ ap (λ (n : ℕ). n * greatest (degrees G side)) (length-range 0 (nodes G side))
+
+  length-degrees : (side : Side) → length (degrees (graph plan s) side) ≡ nodes (graph plan s) side
+  unfolding degrees
+  length-degrees side = length-map-below (λ x. length (neighbours G side x)) (nodes G side)
+
+  lines-all : length (linesOf (graph plan s)) ≡ 4 + (nodes (graph plan s) Bits + nodes (graph plan s) Checks)
   unfolding linesOf
-  lines-few = omega (arith, length-append (lists G Bits) (lists G Checks), length-lists Bits, length-lists Checks, nodes-small Bits, nodes-small Checks)
+  lines-all = omega (arith, length-append (lists G Bits) (lists G Checks), length-lists Bits, length-lists Checks)
+
+  numbers-all : length (numbersOf (linesOf (graph plan s)))
+      ≡ 4 + (nodes (graph plan s) Bits + nodes (graph plan s) Checks)
+      + (nodes (graph plan s) Bits * greatest (degrees (graph plan s) Bits) + nodes (graph plan s) Checks * greatest (degrees (graph plan s) Checks))
+  unfolding linesOf numbersOf
+  numbers-all =
+      let more = numbersOf (lists G Bits ++ lists G Checks) in
+      omega (
+        arith,
+        length-append (degrees G Bits) (degrees G Checks ++ more),
+        length-append (degrees G Checks) more,
+        length-degrees Bits,
+        length-degrees Checks,
+        numbers-append (lists G Bits) (lists G Checks),
+        numbers-lists Bits,
+        numbers-lists Checks,
+      )
+
+  pub text-most : length (textOf (linesOf (graph plan s)))
+      ≤ 8 * (4 + (nodes (graph plan s) Bits + nodes (graph plan s) Checks))
+      + 7 * (nodes (graph plan s) Bits * greatest (degrees (graph plan s) Bits) + nodes (graph plan s) Checks * greatest (degrees (graph plan s) Checks))
+  text-most = omega (arith, textOf-le (linesOf G) line-low, lines-all, numbers-all)
 
   pub text-fits : length (textOf (linesOf (graph plan s))) < 2 ^ 64
-  text-fits = omega (arith, textOf-le (linesOf G) line-short, lines-few)
+  text-fits =
+      omega (
+        arith,
+        text-most,
+        nodes-small Bits,
+        nodes-small Checks,
+        mul-le-mul {n₂ = 786432} {m₂ = 512} (nodes-small Bits) (most-low Bits),
+        mul-le-mul {n₂ = 786432} {m₂ = 512} (nodes-small Checks) (most-low Checks),
+      )
+
+-- The same of a layout.
+
+same-bound : (n b c x y b′ c′ x′ y′ : ℕ) → b ≡ b′ → c ≡ c′ → x ≡ x′ → y ≡ y′ → n ≤ 8 * (4 + (b + c)) + 7 * (b * x + c * y) → n ≤ 8 * (4 + (b′ + c′)) + 7 * (b′ * x′ + c′ * y′)
+same-bound n b c x y b′ c′ x′ y′ p q r t h = rw (p, q, r, t) at h
+
+module _ (plan : List ℤ) (l : Layout) (down along : List ℕ) (m : Measured plan l down along) where
+  pub layout-few : (l .bits ≤ 512) × (l .checks ≤ 512)
+  layout-few =
+      (omega (arith, m .most-bits, most-low plan (l .shape) (m .ready .well) Bits), omega (arith, m .most-checks, most-low plan (l .shape) (m .ready .well) Checks))
+
+  pub layout-most : length (textOf (linesOf (graph plan (l .shape)))) ≤ mostBytes l
+  layout-most =
+      same-bound _ _ _ _ _ _ _ _ _ (nodes-of plan (l .shape) Bits) (nodes-of plan (l .shape) Checks) (sym (m .most-bits)) (sym (m .most-checks))
+      (text-most plan (l .shape) (m .ready .well))

@@ -7,20 +7,29 @@ use native.Mathlib.Omega.{arith}
 use native.Mathlib.Numerals.{add-one}
 use lib.Dec.{ltb}
 use lib.ListN.{length, set, drop, length-append}
-use lib.Seq.{sets, sets-eq}
+use lib.Seq.{sets, sets-eq, set-out}
 use borrow.Author.Tests.{lt-ltb, le-ltb}
 use Rattle.refusal.specs.declared.Refusal.the-variants.{TextPlace}
-use Rattle.refusal.specs.Lowest.{lowest}
+use Rattle.refusal.specs.Lowest.{lowest, refuse}
 use Rattle.refusal.proofs.Lowest.{lowest-here, lowest-next}
+use Rattle.alist.specs.declared.Written.{Written}
 use Rattle.alist.specs.declared.Written.the-variants as answer
-use Rattle.alist.specs.Decimal.{decimal}
+use Rattle.tokens.specs.Decimal.{decimal}
 use Rattle.alist.specs.Text.{item, lineFrom, textOf}
-use Rattle.alist.specs.Calls.{roomRules, written, laid}
-use Rattle.alist.specs.Steps.{Wrote}
+use Rattle.alist.specs.Calls.{roomRules}
+use Rattle.alist.specs.Steps.{Wrote, Put}
 
 sets-append : (l : List ℕ) (i : ℕ) (xs ys : List ℕ) → sets l i (xs ++ ys) ≡ sets (sets l i xs) (i + length xs) ys
 sets-append l i [] ys = ap (λ (k : ℕ). sets l k ys) (omega arith)
 sets-append l i (x ∷ xs) ys = sets-append (set l i x) (suc i) xs ys ∙ ap (λ (k : ℕ). sets (sets (set l i x) (suc i) xs) k ys) (omega arith)
+
+-- past the end nothing is stored
+pub wrote-past : (l : List ℕ) (at : ℕ) (bytes : List ℕ) (next : ℕ) → length l ≤ at → next ≡ at + length bytes → Wrote l at bytes next l
+wrote-past l at bytes next h e = record { place = e; text = sym (past at bytes h) }
+  where
+    past : (i : ℕ) (xs : List ℕ) → length l ≤ i → sets l i xs ≡ l
+    past i [] h = refl
+    past i (x ∷ xs) h = ap (λ (m : List ℕ). sets m (suc i) xs) (set-out l i x h) ∙ past (suc i) xs (omega arith)
 
 -- one run of bytes after another
 pub wrote-then : {l m out xs ys : List ℕ} {at p r : ℕ} → Wrote l at xs p m → Wrote m p ys r out → Wrote l at (xs ++ ys) r out
@@ -92,32 +101,42 @@ pub text-end : (left : List (List ℕ)) → left ≡ [] → textOf left ≡ []
 unfolding textOf
 text-end left e = rw e
 
--- The text in its place, after a run over no place that told its length.
+-- The text in its place.
+
+-- a place that has room for it
+pub put-roomy : (before t : List ℕ) → length t ≤ length before → (n r : ℕ) (out : List ℕ) → n ≡ length t → Wrote before 0 t r out → Put t before (answer.Written n) out
+unfolding lowest
+put-roomy before t h n r out q u =
+    let e : lowest (roomRules t before) ≡ none = room-found (length t) (length before) h in
+    let z : 0 + length t ≡ length t = omega arith in
+    record {
+      answer = rw e (ap answer.Written q);
+      place = rw e (u .text ∙ sets-eq t before 0 (omega arith) ∙ ap (λ (k : ℕ). t ++ drop k before) z);
+    }
+  where
+    room-found : (n m : ℕ) → n ≤ m → lowest (refuse (TextPlace n) (ltb m n) ∷ []) ≡ none
+    room-found n m h = lowest-next (ltb m n) (TextPlace n) [] (le-ltb m n h)
+
+pub put-same : (t t′ before : List ℕ) (r : Written) (after : List ℕ) → t ≡ t′ → Put t before r after → Put t′ before r after
+put-same t t′ before r after e p = rw e at p
 
 sets-none : (i : ℕ) (xs : List ℕ) → _≡_ {A = List ℕ} (sets [] i xs) []
 sets-none i [] = refl
 sets-none i (x ∷ xs) = sets-none (suc i) xs
 
-module _ (before t gone : List ℕ) (need : ℕ) (t′ : List ℕ) (same : t′ ≡ t) (w : Wrote [] 0 t′ need gone) where
+-- after a run over no place, which told its length
+module _ (before t gone : List ℕ) (need : ℕ) (w : Wrote [] 0 t need gone) where
   unchanged : gone ++ before ≡ before
-  unchanged = ap (λ (l : List ℕ). l ++ before) (w .text ∙ sets-none 0 t′)
+  unchanged = ap (λ (l : List ℕ). l ++ before) (w .text ∙ sets-none 0 t)
 
-  need-is : need ≡ length t
-  need-is = omega (arith, w .place, ap length same)
-
-  pub put-short : length (gone ++ before) < need
-      → (answer.Refused (TextPlace need) ≡ written (length t) (lowest (roomRules t before))) × (gone ++ before ≡ laid (lowest (roomRules t before)) t before)
+  pub put-short : length (gone ++ before) < need → Put t before (answer.Refused (TextPlace need)) (gone ++ before)
   put-short h =
+      let need-is : need ≡ length t = omega (arith, w .place) in
       let shorter = lt-ltb (length before) (length t) (omega (arith, ap length unchanged, need-is)) in
       let e : lowest (roomRules t before) ≡ some (TextPlace (length t)) = lowest-here (ltb (length before) (length t)) (TextPlace (length t)) [] shorter in
-      rw (e, need-is) (refl, unchanged)
+      record { answer = rw (e, need-is) refl; place = rw e unchanged }
 
-  pub put-done : need ≤ length (gone ++ before) → (r : ℕ) (out : List ℕ) → Wrote (gone ++ before) 0 t′ r out
-      → (answer.Written need ≡ written (length t) (lowest (roomRules t before))) × (out ≡ laid (lowest (roomRules t before)) t before)
-  unfolding lowest
+  pub put-done : need ≤ length (gone ++ before) → (r : ℕ) (out : List ℕ) → Wrote (gone ++ before) 0 t r out → Put t before (answer.Written need) out
   put-done h r out u =
-      let b : length t ≤ length before = omega (arith, ap length unchanged, need-is) in
-      let e : lowest (roomRules t before) ≡ none = lowest-next (ltb (length before) (length t)) (TextPlace (length t)) [] (le-ltb (length before) (length t) b) in
-      let z : 0 + length t ≡ length t = omega arith in
-      let all : out ≡ sets before 0 t = u .text ∙ ap (λ (l : List ℕ). sets l 0 t′) unchanged ∙ ap (sets before 0) same in
-      rw (e, need-is) (refl, all ∙ sets-eq t before 0 (omega arith) ∙ ap (λ (k : ℕ). t ++ drop k before) z)
+      let need-is : need ≡ length t = omega (arith, w .place) in
+      put-roomy before t (omega (arith, ap length unchanged, need-is)) need r out need-is (rw unchanged at u)

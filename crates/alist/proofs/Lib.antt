@@ -1,11 +1,7 @@
-pub mod Digits
+pub mod Computed
+pub mod FirstLine
 pub mod Laid
-pub mod Lanes
-pub mod Runs
-pub mod Rest
-pub mod Weights
 pub mod Reading
 pub mod Bounds
 pub mod Answers
 pub mod Roundtrip
-pub mod Bench

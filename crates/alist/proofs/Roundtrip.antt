@@ -9,20 +9,21 @@ use lib.Dec.{ltb}
 use lib.IntN.{ℤ}
 use lib.ListN.{length, take, drop, length-append, length-drop}
 use lib.Seq.{drop-drop, drop-append-seam, take-append-seam}
-use borrow.Author.Tests.{eq-eqb, ne-eqb, lt-ltb, le-ltb}
+use borrow.Author.Tests.{ne-eqb, lt-ltb, le-ltb}
 use Rattle.refusal.specs.declared.Refusal.{Refusal}
 use Rattle.refusal.specs.declared.Refusal.the-variants.{TextPlace}
 use Rattle.refusal.specs.Lowest.{lowest}
-use Rattle.refusal.proofs.Lowest.{lowest-here, lowest-next, lowest-accepted, lowest-refused}
+use Rattle.refusal.proofs.Lowest.{lowest-here, lowest-next, lowest-accepted, none-append}
 use Rattle.graph.proofs.Decide.{by-le}
 use Rattle.exponent.specs.Limits.{planRules, WellFormed}
 use Rattle.exponent.proofs.Rules.{accepted}
+use Rattle.tokens.specs.Decimal.{digit, digits, decimal}
+use Rattle.tokens.specs.Tokens.{blank, blanks, token, start, tokenAt, stop, right, mismatch}
+use Rattle.tokens.proofs.Runs.{same-exactly}
+use Rattle.lines.specs.Alist.{alist}
 use Rattle.alist.specs.declared.Written.the-variants as answer
 use Rattle.alist.specs.declared.Comparison.the-variants.{Agrees}
-use Rattle.alist.specs.Decimal.{digit, digits, decimal}
-use Rattle.alist.specs.Alist.{alist}
 use Rattle.alist.specs.Text.{item, lineFrom, textOf, numbersOf}
-use Rattle.alist.specs.Tokens.{blank, blanks, token, start, tokenAt, stop, same, right, mismatch}
 use Rattle.alist.specs.Calls.{alistText, roomRules, writeRules, written, laid, tokenRules, compareRules, comparison}
 
 -- Runs of blank bytes, and runs of digits, which are no blank bytes.
@@ -76,11 +77,6 @@ token-run [] [] p q = refl
 token-run [] (b ∷ rest) p q = rw q
 token-run (b ∷ bytes) rest p q = rw (high-blank b (p .0)) (ap (λ (l : List ℕ). b ∷ l) (token-run bytes rest (p .1) q))
 
-same-itself : (bytes : List ℕ) → same bytes bytes ≡ true
-unfolding same
-same-itself [] = refl
-same-itself (b ∷ bytes) = rw (eq-eqb b b refl) (same-itself bytes)
-
 -- ONE NUMBER. From a place on stand blank bytes, the number, and what ends it: the token is right, and reading goes on at what ends it.
 
 module _ (text : List ℕ) (at : ℕ) where
@@ -99,7 +95,7 @@ module _ (text : List ℕ) (at : ℕ) where
     token-is = rw (start-is, past before (decimal n ++ rest) e) (token-run (decimal n) rest (digits-high n n .0) q)
 
     right-is : right text at n ≡ true
-    right-is = rw token-is (same-itself (decimal n))
+    right-is = rw token-is (same-exactly (decimal n) (decimal n) .1 refl)
 
     stop-is : stop text at ≡ at + length (before ++ decimal n)
     stop-is = rw token-is (omega (arith, start-is, length-append before (decimal n)))
@@ -193,13 +189,7 @@ module _ (plan : List ℤ) (rows cols lift : ℕ) where
 
     none-valid : lowest (writeRules plan rows cols lift place) ≡ none → WellFormed plan rows cols lift
     unfolding writeRules
-    none-valid e = accepted plan rows cols lift .0 (go (lowest (planRules plan rows cols lift)) refl)
-      where
-        go : (o : Option Refusal) → lowest (planRules plan rows cols lift) ≡ o → lowest (planRules plan rows cols lift) ≡ none
-        go none q = q
-        go (some r) q =
-            let s = sym (lowest-refused (planRules plan rows cols lift) (roomRules (alistText plan rows cols lift) place) r q) ∙ e in
-            absurd (let z : _≡_ {A = ℕ} 0 1 = cc in omega arith)
+    none-valid e = accepted plan rows cols lift .0 (none-append (planRules plan rows cols lift) (roomRules (alistText plan rows cols lift) place) .0 e .0)
 
     module _ (n : ℕ) (e : written (length (alistText plan rows cols lift)) (lowest (writeRules plan rows cols lift place)) ≡ answer.Written n) where
       pub written-length : n ≡ length (alistText plan rows cols lift)

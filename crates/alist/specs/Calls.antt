@@ -10,13 +10,13 @@ use Rattle.refusal.specs.declared.Refusal.{Refusal}
 use Rattle.refusal.specs.declared.Refusal.the-variants.{TextPlace, Token}
 use Rattle.refusal.specs.Lowest.{Rule, refuse}
 use Rattle.exponent.specs.Limits.{planRules}
+use Rattle.tokens.specs.Tokens.{mismatch}
+use Rattle.lines.specs.Alist.{alist}
 use Rattle.alist.specs.declared.Written.{Written}
 use Rattle.alist.specs.declared.Written.the-variants as answer
 use Rattle.alist.specs.declared.Comparison.{Comparison}
 use Rattle.alist.specs.declared.Comparison.the-variants.{Agrees, Refused}
-use Rattle.alist.specs.Alist.{alist}
 use Rattle.alist.specs.Text.{textOf, numbersOf}
-use Rattle.alist.specs.Tokens.{mismatch}
 
 -- the alist of a plan as text
 abbrev pub alistText : List ℤ → ℕ → ℕ → ℕ → List ℕ

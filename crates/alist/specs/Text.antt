@@ -1,7 +1,7 @@
 -- Lines of numbers as text, and as the numbers that a text's tokens are held to: the two places where lines are taken apart.
 use Prim.Native.Nat.{ℕ, zero, suc}
 use mathlib.Core.List.{List, [], _∷_, _++_}
-use Rattle.alist.specs.Decimal.{decimal}
+use Rattle.tokens.specs.Decimal.{decimal}
 
 -- the k-th number of a line, from 0: a space before each but the first
 unfoldable pub item : ℕ → ℕ → List ℕ

@@ -2,19 +2,15 @@
 ghost use mathlib.Core.Path.{_≡_};
 ghost use lib.ListN.{length};
 ghost use Rattle.refusal.specs.Lowest.{lowest};
-ghost use Rattle.alist.specs.Calls.{alistText, writeRules, written, laid, tokenRules, compareRules, comparison};
-ghost use Rattle.alist.specs.Alist.{linesOf};
-ghost use Rattle.alist.specs.Text.{numbersOf};
-ghost use Rattle.alist.specs.Tokens.{mismatch};
-ghost use Rattle.alist.specs.Sides.{graph};
 ghost use Rattle.exponent.specs.Limits.{WellFormed};
+ghost use Rattle.tokens.specs.Tokens.{mismatch};
+ghost use Rattle.lines.specs.Alist.{linesOf};
+ghost use Rattle.lines.specs.Sides.{graph};
+ghost use Rattle.alist.specs.Calls.{alistText, writeRules, written, laid, tokenRules, compareRules, comparison};
+ghost use Rattle.alist.specs.Text.{numbersOf};
 
-pub mod generate; // generate.rt: the numbers of the alist, line by line
-pub mod lines; // lines.rt: the lines in their order
 pub mod put; // put.rt: bytes, numbers, lines and the whole text, written where there is room
 pub mod reader; // reader.rt: a lent text with the place that reading has come to
-pub mod sides; // sides.rt: bits and checks, their blocks and their degrees
-pub mod tokens; // tokens.rt: the tokens of a text
 pub mod verify; // verify.rt: a text against the lines
 
 use exponent::Validity;

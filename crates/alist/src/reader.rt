@@ -1,15 +1,15 @@
-use crate::tokens;
-use crate::tokens::Step;
 use crate::verify;
 use crate::verify::Verdict;
 use exponent::index::Shape;
+use tokens::Step;
 ghost use mathlib.Core.Path.{_≡_};
 ghost use Rattle.exponent.specs.Limits.{WellFormed};
-ghost use Rattle.alist.specs.Alist.{linesOf};
+ghost use Rattle.tokens.specs.Tokens.{mismatch};
+ghost use Rattle.tokens.specs.Steps.{expectAt};
+ghost use Rattle.lines.specs.Alist.{linesOf};
+ghost use Rattle.lines.specs.Sides.{graph};
 ghost use Rattle.alist.specs.Text.{numbersOf};
-ghost use Rattle.alist.specs.Tokens.{mismatch};
-ghost use Rattle.alist.specs.Sides.{graph};
-ghost use Rattle.alist.specs.Steps.{expectAt, verdict};
+ghost use Rattle.alist.specs.Steps.{verdict};
 
 // A text that is read, and the place that reading has come to.
 pub struct Reader<'a> {

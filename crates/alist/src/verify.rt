@@ -1,22 +1,21 @@
-use crate::generate;
-use crate::lines;
-use crate::lines::Layout;
-use crate::lines::Line;
-use crate::tokens;
-use crate::tokens::Cursor;
-use crate::tokens::Step;
 use exponent::index;
 use exponent::index::Shape;
+use lines::Layout;
+use lines::Line;
+use lines::generate;
+use tokens::Cursor;
+use tokens::Step;
 ghost use mathlib.Core.Path.{_≡_};
 ghost use Prim.Native.Nat.{_≤_};
 ghost use lib.ListN.{length};
 ghost use Rattle.exponent.specs.Limits.{WellFormed};
-ghost use Rattle.alist.specs.Alist.{linesOf};
+ghost use Rattle.tokens.specs.Tokens.{mismatch};
+ghost use Rattle.tokens.specs.Steps.{readLine};
+ghost use Rattle.lines.specs.Alist.{linesOf};
+ghost use Rattle.lines.specs.Sides.{graph};
+ghost use Rattle.lines.specs.Lines.{lineOf, Measured, InLine};
 ghost use Rattle.alist.specs.Text.{numbersOf};
-ghost use Rattle.alist.specs.Tokens.{mismatch};
-ghost use Rattle.alist.specs.Sides.{graph};
-ghost use Rattle.alist.specs.Lines.{lineOf, Measured, InLine};
-ghost use Rattle.alist.specs.Steps.{readLine, verdict};
+ghost use Rattle.alist.specs.Steps.{verdict};
 
 // The text is the alist; or it differs first at this place.
 pub enum Verdict {

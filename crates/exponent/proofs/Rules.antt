@@ -1,20 +1,21 @@
 -- Laws of refusals 1 to 6: their numbers rise, and none of them applies exactly where the plan is well formed.
 -- Assumes nothing.
-use Prim.Native.Nat.{ℕ, _*_, _≤_}
+use Prim.Native.Nat.{ℕ, _*_, _≤_, _<_}
 use mathlib.Core.Path.{_≡_, refl, ap}
-use mathlib.Core.Logic.{_↔_}
-use mathlib.Core.Bool.{Bool, true, false, not, _||_}
+use mathlib.Core.Logic.{_↔_, _⊎_, inl, inr}
+use mathlib.Core.Bool.{true, false, not}
 use mathlib.Core.List.{List}
 use mathlib.Core.Option.{Option, none, some}
 use native.Mathlib.Omega.{arith}
 use lib.Dec.{ltb}
 use lib.IntN.{ℤ, pos}
 use lib.ListN.{length}
-use borrow.Author.Tests.{ltb-false, le-ltb, eqb-true, eq-eqb, not-false}
+use borrow.Author.Tests.{ltb-true, ltb-false, lt-ltb, le-ltb, eqb-true, eq-eqb, not-false}
 use Rattle.refusal.specs.declared.Refusal.{Refusal}
 use Rattle.refusal.specs.Lowest.{lowest, rising}
 use Rattle.refusal.proofs.Lowest.{NoneHolds, none-holds}
 use Rattle.refusal.proofs.Place.{somewhere-no, somewhere-none}
+use Rattle.graph.proofs.Decide.{neither, by-bool}
 use Rattle.exponent.specs.declared.Validity.the-variants.{Valid, Refused}
 use Rattle.exponent.specs.Plan.{invalidEntry}
 use Rattle.exponent.specs.Limits.{outside, planRules, validity, WellFormed}
@@ -24,16 +25,23 @@ pub rules-rise : (plan : List ℤ) (rows cols lift : ℕ) → rising (planRules 
 unfolding planRules
 rules-rise plan rows cols lift = refl
 
-neither : (a b : Bool) → (a || b) ≡ false → (a ≡ false) × (b ≡ false)
-neither true b e = absurd (let z : _≡_ {A = ℕ} 0 1 = cc in omega arith)
-neither false b e = (refl, e)
-
 -- n is not outside of low to high exactly where it lies between them
 pub inside : (low high n : ℕ) → (outside low high n ≡ false) ↔ ((low ≤ n) × (n ≤ high))
 inside low high n = (
   λ e. let (p, q) = neither (ltb n low) (ltb high n) e in (ltb-false n low p, ltb-false high n q),
   λ h. rw (le-ltb n low (h .0)) (le-ltb high n (h .1)),
 )
+
+-- and outside exactly where it lies below or above
+pub outside-exactly : (low high n : ℕ) → (outside low high n ≡ true) ↔ ((n < low) ⊎ (high < n))
+outside-exactly low high n = (
+  λ e. by-bool (ltb n low) (λ p. inl (ltb-true n low p)) (λ p. inr (ltb-true high n (rw p at e))),
+  λ h. beyond h,
+)
+  where
+    beyond : (n < low) ⊎ (high < n) → outside low high n ≡ true
+    beyond (inl h) = rw (lt-ltb n low h)
+    beyond (inr h) = by-bool (ltb n low) (λ p. rw p) (λ p. rw (p, lt-ltb high n h))
 
 -- none of them applies exactly where the plan is well formed
 pub accepted : (plan : List ℤ) (rows cols lift : ℕ) → (lowest (planRules plan rows cols lift) ≡ none) ↔ WellFormed plan rows cols lift

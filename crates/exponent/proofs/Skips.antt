@@ -9,7 +9,7 @@ use native.Mathlib.Numerals.{add-one}
 use borrow.Author.Tests.{lt-ltb, le-ltb}
 use lib.Dec.{ltb}
 use lib.IntN.{ℤ}
-use lib.ListN.{length, getD, set}
+use lib.ListN.{length, getD, set, replicate, length-replicate}
 use lib.Seq.{getD-set-same, getD-set-other}
 use Rattle.graph.proofs.Decide.{by-eq, by-le}
 use Rattle.exponent.specs.declared.index.Shape.{Shape}
@@ -22,6 +22,13 @@ place-low i j rows cols p q = omega (arith, suc-mul i cols, mul-le-mul-right col
 
 pub place-small : (rows cols : ℕ) → rows ≤ 192 → cols ≤ 512 → rows * cols ≤ 98304
 place-small rows cols p q = mul-le-mul p q
+
+-- an index list as it is made, and after a call that kept its length: by a law, since counting its places would take long
+pub index-made : _≡_ {A = ℕ} 98304 (length (replicate {A = ℕ} 98304 0))
+index-made = sym (length-replicate {A = ℕ} 98304 0)
+
+pub index-kept : {n : ℕ} → n ≡ length (replicate {A = ℕ} 98304 0) → 98304 ≡ n
+index-kept e = sym (e ∙ length-replicate {A = ℕ} 98304 0)
 
 pub next-row : (i cols : ℕ) → (i + 1) * cols ≡ i * cols + cols
 next-row i cols = ap (λ (x : ℕ). x * cols) (add-one i) ∙ suc-mul i cols

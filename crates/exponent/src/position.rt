@@ -1,5 +1,5 @@
 ghost use mathlib.Core.Path.{_≡_};
-ghost use Prim.Native.Nat.{_<_, _≤_};
+ghost use Prim.Native.Nat.{_+_, _%_, _<_, _≤_};
 ghost use Rattle.exponent.specs.Position.{forward, back};
 
 // A walk's position: at bit (col, voltage), come from a check in row `row`; or at check (row, voltage), come from a bit in
@@ -34,4 +34,15 @@ impl Position {
             voltage: (self.voltage + (lift - shift)) % lift,
         }
     }
+}
+
+// n modulo the lift, where n is less than twice as much: without a division, for the loops that turn at every block.
+pub fn wrap(n: usize, lift: usize) -> usize
+    requires { ⌜ n < lift + lift ⌝ }
+    ensures { λ r. ⌜ r ≡ n % lift ⌝ }
+{
+    if n < lift {
+        return n;
+    }
+    n - lift
 }

@@ -9,4 +9,3 @@ pub mod Loops
 pub mod Steps
 pub mod Rules
 pub mod Model
-pub mod Cases

@@ -4,4 +4,3 @@ pub mod Steps
 pub mod Ends
 pub mod Meaning
 pub mod Rules
-pub mod Cases

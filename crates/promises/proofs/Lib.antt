@@ -1,2 +1,10 @@
+pub mod Two
+pub mod Matching
+pub mod PlanRows
+pub mod TableRows
+pub mod WordRows
+pub mod TextRows
+pub mod One
 pub mod Three
 pub mod Table
+pub mod Cases

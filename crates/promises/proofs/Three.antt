@@ -14,15 +14,13 @@ use Rattle.graph.proofs.Decide.{by-bool, by-le}
 use Rattle.graph.proofs.Recovery.{few-recovered}
 use Rattle.exponent.specs.Tanner.{tanner, ThreeBlocks}
 use Rattle.exponent.proofs.Tanner.{three-checks}
-use Rattle.girth.specs.declared.GirthTest.{GirthTest}
-use Rattle.girth.specs.declared.Outcome.the-variants.{Passed}
-use Rattle.girth.specs.Test.{Answer, refused, passed, failed}
 use Rattle.syndrome.specs.declared.Syndrome.the-variants.{Even}
 use Rattle.syndrome.specs.Check.{syndromeOf}
 use Rattle.syndrome.proofs.Rules.{word-accepted, check-accepted, syndrome-even, even-codeword}
 use Rattle.peeling.specs.declared.Filling.the-variants.{Filled}
 use Rattle.peeling.proofs.Rules.{not-refused}
 use Rattle.promises.specs.Three.{Bound, at-6, at-8, at-10, at-12, Loses, Recovered, Promise-3}
+use Rattle.promises.proofs.Two.{verdict}
 
 -- the bound is one less than the least stopping set
 least : {target bound : ℕ} → Bound target bound → Least target (suc bound)
@@ -30,11 +28,6 @@ least at-6 = girth-6
 least at-8 = girth-8
 least at-10 = girth-10
 least at-12 = girth-12
-
-passes : {plan : List ℤ} {rows cols lift target : ℕ} {r : GirthTest} → Answer plan rows cols lift target r → r .outcome ≡ Passed → Passes (tanner plan rows cols lift) target
-passes (refused x e) q = absurd (let z : _≡_ {A = ℕ} 0 1 = cc in omega arith)
-passes (passed e p) q = p
-passes (failed r e w) q = absurd (let f = w .failed in let z : _≡_ {A = ℕ} 0 1 = cc in omega arith)
 
 module _ (plan : List ℤ) (rows cols lift target bound : ℕ) (at : Bound target bound) (no-cycle : Passes (tanner plan rows cols lift) target)
     (three : ThreeBlocks plan rows cols lift) (f f′ : List ℕ) (even : syndromeOf plan rows cols lift f ≡ Even) (loses : Loses f f′ bound) where
@@ -52,7 +45,7 @@ module _ (plan : List ℤ) (rows cols lift target bound : ℕ) (at : Bound targe
 
 pub promise-3 : Promise-3
 promise-3 plan rows cols lift target bound at r answer pass three f g f′ g′ even-f even-g loses-f loses-g =
-    let no-cycle = passes answer pass in
+    let no-cycle = verdict plan rows cols lift target answer .passed .0 pass .1 in
     let a = recovered plan rows cols lift target bound at no-cycle three f f′ even-f loses-f in
     let b = recovered plan rows cols lift target bound at no-cycle three g g′ even-g loses-g in
     (a, b, (λ e. sym (a .word) ∙ e ∙ b .word, λ e. a .word ∙ e ∙ sym (b .word)))

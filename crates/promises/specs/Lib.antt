@@ -1,2 +1,6 @@
+pub mod Two
+pub mod TurnedAway
+pub mod One
 pub mod Three
 pub mod Table
+pub mod Cases

@@ -7,8 +7,8 @@ use lib.IntN.{ℤ}
 use Rattle.refusal.specs.Lowest.{lowest}
 use Rattle.syndrome.specs.declared.Syndrome.the-variants.{Even}
 use Rattle.syndrome.specs.Check.{syndromeOf}
+use Rattle.square.specs.Mask.{weight}
 use Rattle.table.specs.Build.{buildRules, builtPlan}
-use Rattle.table.specs.Mask.{weight}
 use Rattle.table.specs.Plan.{planRows, planCols}
 use Rattle.promises.specs.Three.{Loses, Recovered}
 

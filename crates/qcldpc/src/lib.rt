@@ -14,11 +14,11 @@ ghost use Rattle.peeling.specs.declared.Filling.{Filling};
 ghost use Rattle.peeling.specs.Fill.{fillAnswer, fillWord};
 ghost use Rattle.syndrome.specs.declared.Syndrome.{Syndrome};
 ghost use Rattle.syndrome.specs.Check.{syndromeOf};
+ghost use Rattle.square.specs.declared.supply.Family.the-variants.{Array, Cyclic};
+ghost use Rattle.square.specs.Table.{suppliedTable};
+ghost use Rattle.square.specs.Mask.{weight};
 ghost use Rattle.table.specs.declared.Built.{Built};
 ghost use Rattle.table.specs.declared.Supplied.{Supplied};
-ghost use Rattle.table.specs.declared.supply.Family.the-variants.{Array, Cyclic};
-ghost use Rattle.table.specs.Table.{suppliedTable};
-ghost use Rattle.table.specs.Mask.{weight};
 ghost use Rattle.table.specs.Build.{lent, supplyRules, supplied, buildRules, builtPlan, built};
 ghost use Rattle.qcldpc.specs.Door.{Replies, Leaves, checkReply, girthReply, fillReply, syndromeReply, builtReply, suppliedReply, writtenReply, comparedReply};
 

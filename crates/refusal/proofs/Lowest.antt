@@ -69,6 +69,36 @@ lowest-refused (rule ∷ rules) others r e = step (first (rule .applies) (rule .
     step (inl (p, q)) more = rw (p, q)
     step (inr (p, q)) more = rw p (more q)
 
+-- nothing of two lists applies exactly where nothing of either does
+pub none-append : (rules others : List Rule) → (lowest (rules ++ others) ≡ none) ↔ ((lowest rules ≡ none) × (lowest others ≡ none))
+none-append rules others = (step (lowest rules) refl, λ h. lowest-accepted rules others (h .0) ∙ h .1)
+  where
+    step : (o : Option Refusal) → lowest rules ≡ o → lowest (rules ++ others) ≡ none → (lowest rules ≡ none) × (lowest others ≡ none)
+    step none q e = (q, sym (lowest-accepted rules others q) ∙ e)
+    step (some r) q e = absurd (none-some r (sym e ∙ lowest-refused rules others r q))
+
+-- what stands in a list stands first or later, and what stands in two lists, in one of them
+pub in-cons : {rule other : Rule} {rules : List Rule} → In rule (other ∷ rules) → (rule ≡ other) ⊎ In rule rules
+in-cons here = inl refl
+in-cons (later i) = inr i
+
+pub in-first : {rule : Rule} {rules : List Rule} (others : List Rule) → In rule rules → In rule (rules ++ others)
+in-first others here = here
+in-first others (later i) = later (in-first others i)
+
+pub in-second : {rule : Rule} (rules : List Rule) {others : List Rule} → In rule others → In rule (rules ++ others)
+in-second [] i = i
+in-second (other ∷ rules) i = later (in-second rules i)
+
+pub in-either : {rule : Rule} (rules others : List Rule) → In rule (rules ++ others) → In rule rules ⊎ In rule others
+in-either [] others i = inr i
+in-either (other ∷ rules) others here = inl here
+in-either (other ∷ rules) others (later i) = step (in-either rules others i)
+  where
+    step : {rule : Rule} → In rule rules ⊎ In rule others → In rule (other ∷ rules) ⊎ In rule others
+    step (inl k) = inl (later k)
+    step (inr k) = inr k
+
 -- what `lowest` gives applies
 lowest-applies : (rules : List Rule) (r : Refusal) → lowest rules ≡ some r → In (refuse r true) rules
 unfolding lowest

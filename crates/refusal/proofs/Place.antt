@@ -1,16 +1,24 @@
 -- Laws of `firstPlace`: it is the first place at which the test holds, or the length. Assumes nothing.
 use Prim.Native.Nat.{ℕ, zero, suc, _≤_, _<_}
-use mathlib.Core.Path.{_≡_, refl, sym, ap, _∙_}
-use mathlib.Core.Bool.{Bool, true, false}
+use mathlib.Core.Path.{_≡_, refl, sym, ap, subst, _∙_}
+use mathlib.Core.Logic.{_↔_}
+use mathlib.Core.Bool.{Bool, true, false, true≢false}
 use mathlib.Core.List.{List, [], _∷_}
 use native.Mathlib.Omega.{arith}
-use borrow.Author.Tests.{lt-ltb, le-ltb, ltb-false}
+use borrow.Author.Tests.{lt-ltb, le-ltb, ltb-true, ltb-false}
 use lib.ListN.{length, getD}
-use Rattle.refusal.specs.Place.{firstPlace, somewhere}
+use Rattle.refusal.specs.Place.{firstPlace, somewhere, First}
 
 by-bool : {C : Type 0} (t : Bool) → (t ≡ true → C) → (t ≡ false → C) → C
 by-bool true f g = f refl
 by-bool false f g = g refl
+
+fails : (t : Bool) → (t ≡ true → ⊥) → t ≡ false
+fails true h = absurd (h refl)
+fails false h = refl
+
+both-ways : {t : Bool} → t ≡ true → t ≡ false → ⊥
+both-ways p q = true≢false (sym p ∙ q)
 
 module _ {A : Type 0} (test : A → Bool) (d : A) where
   -- the test holds at k and at no place before
@@ -57,3 +65,19 @@ module _ {A : Type 0} (test : A → Bool) (d : A) where
 
   pub somewhere-at : (l : List A) (k : ℕ) → firstPlace test l ≡ k → k < length l → somewhere test l ≡ true
   somewhere-at l k e h = lt-ltb (firstPlace test l) (length l) (omega arith)
+
+  -- THE LAW: where the test tells what Holds, its first place is the first place where that holds
+  module _ (Holds : A → Type 0) (tells : (x : A) → (test x ≡ true) ↔ Holds x) (l : List A) (k : ℕ) where
+    pub first-exactly : ((somewhere test l ≡ true) × (firstPlace test l ≡ k)) ↔ First (length l) (λ i. Holds (getD l i d)) k
+    first-exactly = (
+      λ (t, e).
+          let h : firstPlace test l < length l = ltb-true (firstPlace test l) (length l) t in
+          record {
+            inside = omega arith;
+            holds = tells (getD l k d) .0 (subst (λ (i : ℕ). test (getD l i d) ≡ true) e (at-first l h));
+            nowhere-before = λ i q x. both-ways (tells (getD l i d) .1 x) (before-first l i (omega arith));
+          },
+      λ w.
+          let e = first-at l k (λ i q. fails (test (getD l i d)) (λ t. w .nowhere-before i q (tells (getD l i d) .0 t))) (w .inside) (tells (getD l k d) .1 (w .holds)) in
+          (somewhere-at l k e (w .inside), e),
+    )

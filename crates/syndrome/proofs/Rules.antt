@@ -1,10 +1,10 @@
 -- Laws of the refusals of a word and of the syndrome: when none applies, and what `Even` and `Odd` then say.
 -- Assumes nothing.
 use Prim.Native.Nat.{ℕ, _*_, _≤_, _<_}
-use mathlib.Core.Path.{_≡_, refl, sym, ap, subst, _∙_}
+use mathlib.Core.Path.{_≡_, refl, ap, subst, _∙_}
 use mathlib.Core.Logic.{_↔_}
 use mathlib.Core.Bool.{Bool, true, false, cond, not}
-use mathlib.Core.List.{List, [], _∷_, _++_}
+use mathlib.Core.List.{List, [], _∷_}
 use mathlib.Core.Option.{Option, none, some}
 use native.Mathlib.Omega.{arith}
 use borrow.Author.Tests.{ltb-true, ltb-false, lt-ltb, le-ltb, eqb-true, eq-eqb, not-false}
@@ -13,13 +13,13 @@ use lib.IntN.{ℤ}
 use lib.ListN.{length, getD, List·getD-eq-default}
 use Rattle.refusal.specs.declared.Refusal.{Refusal}
 use Rattle.refusal.specs.declared.Refusal.the-variants.{Erasure}
-use Rattle.refusal.specs.Lowest.{Rule, refuse, lowest, rising}
+use Rattle.refusal.specs.Lowest.{refuse, lowest, rising}
 use Rattle.refusal.specs.Place.{firstPlace, somewhere}
-use Rattle.refusal.proofs.Lowest.{lowest-here, lowest-next, lowest-accepted, lowest-refused, NoneHolds, none-holds}
+use Rattle.refusal.proofs.Lowest.{lowest-here, lowest-next, lowest-accepted, lowest-refused, none-append, NoneHolds, none-holds}
 use Rattle.refusal.proofs.Place.{somewhere-no, somewhere-none}
 use Rattle.graph.specs.Erasure.{parity, Codeword}
 use Rattle.graph.proofs.Decide.{by-le}
-use Rattle.exponent.specs.Limits.{planRules, validity, WellFormed}
+use Rattle.exponent.specs.Limits.{planRules, WellFormed}
 use Rattle.exponent.specs.Tanner.{tanner}
 use Rattle.exponent.proofs.Rules.{accepted}
 use Rattle.syndrome.specs.declared.Syndrome.{Syndrome}
@@ -33,14 +33,6 @@ use Rattle.syndrome.proofs.Odds.{odd-none, before-odd, at-odd}
 pub rules-rise : (plan : List ℤ) (rows cols lift : ℕ) (word : List ℕ) → rising (checkRules plan rows cols lift word) ≡ true
 unfolding checkRules wordRules planRules byteRules
 rules-rise plan rows cols lift word = refl
-
--- nothing of two lists applies exactly where nothing of either does
-pub none-append : (rules others : List Rule) → (lowest (rules ++ others) ≡ none) ↔ ((lowest rules ≡ none) × (lowest others ≡ none))
-none-append rules others = (step (lowest rules) refl, λ h. lowest-accepted rules others (h .0) ∙ h .1)
-  where
-    step : (o : Option Refusal) → lowest rules ≡ o → lowest (rules ++ others) ≡ none → (lowest rules ≡ none) × (lowest others ≡ none)
-    step none q e = (q, sym (lowest-accepted rules others q) ∙ e)
-    step (some r) q e = absurd (let w = lowest-refused rules others r q in let z : _≡_ {A = ℕ} 0 1 = cc in omega arith)
 
 -- behind its end a list has zeros
 everywhere : (word : List ℕ) (n : ℕ) → ((b : ℕ) → b < length word → getD word b 0 ≤ n) → (b : ℕ) → getD word b 0 ≤ n

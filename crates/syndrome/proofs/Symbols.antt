@@ -40,6 +40,21 @@ module _ (x : ℕ) where
     λ k. ap (sought true) (symbol-known k),
   )
 
+  -- in words: above 2, and equal to 2
+  pub other-exactly : (isOther x ≡ true) ↔ (2 < x)
+  other-exactly = (
+    λ e. by-le x 2 (λ h. both-ways e (not-other .1 h)) (λ h. h),
+    λ h. ap (sought false) (symbol-other h),
+  )
+
+  pub erasure-exactly : (isErasure x ≡ true) ↔ (x ≡ 2)
+  erasure-exactly = (
+    λ e. by-le x 2
+        (λ h. by-le 2 x (λ k. omega arith) (λ k. both-ways e (ap (sought true) (symbol-known k))))
+        (λ h. both-ways e (ap (sought true) (symbol-other h))),
+    λ e. ap (sought true) (symbol-erased e),
+  )
+
 -- one number more
 pub count-last : (f : ℕ → Bool) (n : ℕ) → count f (below (n + 1)) ≡ count f (below n) + one (f n)
 unfolding count

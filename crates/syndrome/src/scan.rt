@@ -2,6 +2,7 @@ use exponent::block;
 use exponent::block::Block;
 use exponent::index;
 use exponent::index::Shape;
+use exponent::position;
 ghost use Prim.Native.Nat.{_+_, _*_, _<_, _≤_};
 ghost use lib.ListN.{length};
 ghost use Rattle.graph.specs.Graph.{bitsOf};
@@ -46,7 +47,7 @@ fn add_block(b: Block, lift: usize, y: usize, j: usize, word: &[u8], s: Scan) ->
         Block::Zero => s,
         Block::Invalid => s,
         Block::Shift(e) => {
-            let at = j * lift + (y + e) % lift;
+            let at = j * lift + position::wrap(y + e, lift);
             add_bit(s, word[at], at)
         }
     }

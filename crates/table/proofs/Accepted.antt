@@ -2,8 +2,8 @@
 -- Assumes nothing.
 use Prim.Native.Nat.{ℕ, _*_, _≤_}
 use mathlib.Core.Path.{_≡_, refl, sym, _∙_}
-use mathlib.Core.Bool.{Bool, true, false, not, _||_}
-use mathlib.Core.List.{List, _++_}
+use mathlib.Core.Bool.{false, not}
+use mathlib.Core.List.{List}
 use mathlib.Core.Option.{Option, none, some}
 use native.Mathlib.Omega.{arith}
 use lib.Dec.{eqb}
@@ -11,26 +11,18 @@ use lib.IntN.{ℤ}
 use lib.ListN.{length}
 use borrow.Author.Tests.{ltb-false, eqb-true, not-false}
 use Rattle.refusal.specs.declared.Refusal.{Refusal}
-use Rattle.refusal.specs.Lowest.{Rule, lowest}
-use Rattle.refusal.proofs.Lowest.{NoneHolds, none-holds, lowest-accepted, lowest-refused}
+use Rattle.refusal.specs.Lowest.{lowest}
+use Rattle.refusal.proofs.Lowest.{none-append, NoneHolds, none-holds}
+use Rattle.graph.proofs.Decide.{neither}
 use Rattle.exponent.proofs.Rules.{inside}
+use Rattle.square.specs.Table.{tableAt, unsound}
+use Rattle.square.specs.Mask.{maskAt, weight, Common}
+use Rattle.square.proofs.Weights.{weight-common}
 use Rattle.table.specs.declared.judge.Verdict.the-variants.{Accepted, Refused}
-use Rattle.table.specs.Table.{tableAt, unsound}
-use Rattle.table.specs.Mask.{maskAt, weight, Common}
 use Rattle.table.specs.Plan.{planRows, planCols, tablePlan}
 use Rattle.table.specs.Build.{tableRules, maskRules, buildRules, verdict}
 use Rattle.table.specs.Write.{Ready}
 use Rattle.table.proofs.Shape.{plan-length}
-use Rattle.table.proofs.Weights.{weight-common}
-
--- rules one after the other
-module _ (rules others : List Rule) where
-  pub none-both : lowest (rules ++ others) ≡ none → (lowest rules ≡ none) × (lowest others ≡ none)
-  none-both e = step (lowest rules) refl
-    where
-      step : (o : Option Refusal) → lowest rules ≡ o → (lowest rules ≡ none) × (lowest others ≡ none)
-      step none h = (h, sym (lowest-accepted rules others h) ∙ e)
-      step (some r) h = absurd (let f = sym (lowest-refused rules others r h) ∙ e in let z : _≡_ {A = ℕ} 0 1 = cc in omega arith)
 
 -- what a verdict tells of the rules
 pub accepts : (o : Option Refusal) (n m : ℕ) → Accepted m ≡ verdict o n → (o ≡ none) × (m ≡ n)
@@ -40,10 +32,6 @@ accepts (some r) n m e = absurd (let z : _≡_ {A = ℕ} 0 1 = cc in omega arith
 pub refuses : (o : Option Refusal) (n : ℕ) (r : Refusal) → Refused r ≡ verdict o n → o ≡ some r
 refuses none n r e = absurd (let z : _≡_ {A = ℕ} 0 1 = cc in omega arith)
 refuses (some s) n r e = cc
-
-neither : (a b : Bool) → (a || b) ≡ false → (a ≡ false) × (b ≡ false)
-neither true b e = absurd (let z : _≡_ {A = ℕ} 0 1 = cc in omega arith)
-neither false b e = (refl, e)
 
 -- the lift and the table passed
 pub record TableTaken (order lift : ℕ) (table : List ℤ) : Type 0 where
@@ -80,7 +68,7 @@ pub record Taken (order lift : ℕ) (table : List ℤ) (mask : List ℕ) (room :
 module _ (order lift : ℕ) (table : List ℤ) (mask : List ℕ) (room : ℕ) where
   pub taken : lowest (buildRules order lift table mask room) ≡ none → Taken order lift table mask room
   unfolding buildRules maskRules
-  taken e = let (t, m) = none-both (tableRules order lift table) (maskRules order lift mask room) e in all t (none-holds (maskRules order lift mask room) .0 m)
+  taken e = let (t, m) = none-append (tableRules order lift table) (maskRules order lift mask room) .0 e in all t (none-holds (maskRules order lift mask room) .0 m)
     where
       all : lowest (tableRules order lift table) ≡ none → NoneHolds (maskRules order lift mask room) → Taken order lift table mask room
       all t (b, (w, (f, (p, _)))) =

@@ -5,7 +5,8 @@ use mathlib.Core.Logic.{_≢_}
 use Prim.Native.Nat.{ℕ, _+_, _%_, _<_}
 use native.Mathlib.Nat.{mod-lt}
 use native.Mathlib.Omega.{arith}
-use Rattle.table.specs.Table.{Sound}
+use Rattle.square.specs.Table.{Sound}
+use Rattle.square.proofs.Congruent.{Congruent, of-mod, to-minus, close}
 use Rattle.table.specs.Plan.{shiftAt}
 use Rattle.table.specs.Write.{Within}
 use Rattle.table.specs.declared.grid.Part.{Part}
@@ -13,7 +14,6 @@ use Rattle.table.specs.declared.grid.Column.{Column}
 use Rattle.table.specs.declared.grid.Part.the-variants.{AJ, AR, JR}
 use Rattle.table.proofs.Moves.{Move}
 use Rattle.table.proofs.Parts.{AJ≢AR, AJ≢JR, AR≢JR, free}
-use Rattle.table.proofs.Congruent.{Congruent, of-mod, to-minus, close}
 
 flip : {k l : Part} → k ≢ l → l ≢ k
 flip h e = h (sym e)

@@ -21,21 +21,21 @@ use Rattle.exponent.specs.declared.block.Block.the-variants.{Shift}
 use Rattle.exponent.specs.Plan.{blockOf, invalidEntry, entryAt, blockAt, filled}
 use Rattle.exponent.specs.Tanner.{edge, tanner}
 use Rattle.exponent.proofs.Numbers.{block-low}
+use Rattle.square.specs.Each.{grid}
+use Rattle.square.specs.Table.{Sound, block}
+use Rattle.square.specs.Mask.{maskAt, Common}
+use Rattle.square.proofs.Congruent.{of-mod, close, turned}
 use Rattle.table.specs.declared.grid.Part.{Part}
 use Rattle.table.specs.declared.grid.Part.the-variants.{AJ, AR, JR}
 use Rattle.table.specs.declared.grid.Row.{Row}
 use Rattle.table.specs.declared.grid.Column.{Column}
-use Rattle.table.specs.Each.{grid}
-use Rattle.table.specs.Table.{Sound}
-use Rattle.table.specs.Mask.{maskAt, Common}
-use Rattle.table.specs.Plan.{columns, rows, rowOf, rowAt, shiftAt, meets, block, entry, planRows, planCols, tablePlan}
+use Rattle.table.specs.Plan.{columns, rows, rowOf, rowAt, shiftAt, meets, entry, planRows, planCols, tablePlan}
 use Rattle.table.specs.Write.{Within}
 use Rattle.table.proofs.Moves.{Move}
 use Rattle.table.proofs.Parts.{part?, free}
 use Rattle.table.proofs.Listed.{nodup-inj, mem-column, nodup-columns, nodup-rows}
 use Rattle.table.proofs.Shape.{point, columns-count, rows-count}
 use Rattle.table.proofs.Short.{OnGrid, Square, passes-12}
-use Rattle.table.proofs.Congruent.{of-mod, close, turned}
 use Rattle.table.proofs.Corner.{no-round}
 
 -- ONE ENTRY. Its block is valid, and filled where the row meets the column.

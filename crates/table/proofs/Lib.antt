@@ -1,13 +1,6 @@
-pub mod Places
-pub mod Each
-pub mod Counts
-pub mod Totals
-pub mod Runs
-pub mod Signs
-pub mod Congruent
-pub mod Repeats
+pub mod Columns
+pub mod Written
 pub mod Rows
-pub mod Weights
 pub mod Parts
 pub mod Listed
 pub mod Shape
@@ -17,6 +10,5 @@ pub mod Short
 pub mod Corner
 pub mod Edges
 pub mod Plans
-pub mod Tables
 pub mod Bench
 pub mod Source004

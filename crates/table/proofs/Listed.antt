@@ -12,15 +12,16 @@ use Rattle.graph.specs.Count.{range, below, select}
 use Rattle.graph.proofs.Decide.{by-le}
 use Rattle.graph.proofs.Lists.{Mem, Nodup, mem-append, nodup-append, nodup-getD}
 use Rattle.graph.proofs.Count.{mem-range, nodup-range, range-append, select-append, mem-select, nodup-select}
+use Rattle.square.specs.Each.{each, upon}
+use Rattle.square.proofs.Places.{digit, first-digit}
+use Rattle.square.proofs.Each.{each-digits}
 use Rattle.table.specs.declared.grid.Part.{Part}
 use Rattle.table.specs.declared.grid.Part.the-variants.{AJ, AR, JR}
 use Rattle.table.specs.declared.grid.Row.{Row}
 use Rattle.table.specs.declared.grid.Column.{Column}
-use Rattle.table.specs.Each.{each, upon}
 use Rattle.table.specs.Plan.{Ones, columns, rows, rowOf}
 use Rattle.table.specs.Write.{column, keeps}
-use Rattle.table.proofs.Places.{digit, first-digit}
-use Rattle.table.proofs.Each.{each-digits, columns-are}
+use Rattle.table.proofs.Columns.{columns-are}
 use Rattle.table.proofs.Parts.{AJ≢AR, AJ≢JR, AR≢JR}
 
 module _ {A : Type 0} where

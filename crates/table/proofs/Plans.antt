@@ -16,18 +16,19 @@ use Rattle.exponent.specs.Plan.{invalidEntry, blockAt, filled}
 use Rattle.exponent.specs.Limits.{planRules, WellFormed}
 use Rattle.exponent.specs.Tanner.{tanner, columnWeight, rowWeight, ThreeBlocks}
 use Rattle.exponent.proofs.Rules.{accepted}
+use Rattle.square.specs.Table.{tableAt}
+use Rattle.square.specs.Mask.{maskAt, weight, Common}
+use Rattle.square.proofs.Places.{square}
+use Rattle.square.proofs.Totals.{tally-places}
+use Rattle.square.proofs.Repeats.{sound-exactly}
 use Rattle.table.specs.declared.grid.Part.the-variants.{AJ}
-use Rattle.table.specs.Table.{tableAt}
-use Rattle.table.specs.Mask.{maskAt, weight, Common}
 use Rattle.table.specs.Plan.{columns, rows, rowOf, meets, shiftAt, planRows, planCols, tablePlan}
 use Rattle.table.specs.Build.{supplyRules, tableRules, maskRules, buildRules, builtPlan}
-use Rattle.table.proofs.Places.{square, cols-small}
-use Rattle.table.proofs.Totals.{tally-places}
+use Rattle.table.proofs.Columns.{cols-small}
 use Rattle.table.proofs.Listed.{mem-column, mem-row}
 use Rattle.table.proofs.Shape.{point, columns-count, rows-count, plan-length, column-three, row-meets}
 use Rattle.table.proofs.Edges.{entry-valid, entry-filled, nth-row, nth-column, plan-at, block-is, plan-passes-12}
 use Rattle.table.proofs.Accepted.{taken}
-use Rattle.table.proofs.Repeats.{sound-exactly}
 
 -- the numbers of the refusals rise, whatever is lent
 pub rules-rise : (order lift : ℕ) (table : List ℤ) (mask : List ℕ) (room : ℕ) → rising (buildRules order lift table mask room) ≡ true

@@ -1,27 +1,23 @@
 -- A row and a column: their tests as the code makes them, and the entries of one column. Assumes nothing.
-use Prim.Native.Nat.{ℕ, _+_, _-_, _*_, _/_, _%_, _<_}
+use Prim.Native.Nat.{ℕ, _+_, _/_, _%_}
 use mathlib.Core.Path.{_≡_, sym, ap, _∙_}
 use mathlib.Core.Bool.{Bool, true, false, _&&_}
 use mathlib.Core.List.{List, [], _∷_}
-use native.Mathlib.Nat.{mod-lt}
-use native.Mathlib.Omega.{arith}
 use lib.Dec.{eqb}
 use lib.IntN.{ℤ}
 use lib.ListN.{set}
 use borrow.Author.Tests.{eq-eqb, ne-eqb}
+use Rattle.square.specs.Each.{upon}
+use Rattle.square.specs.Table.{tableAt}
+use Rattle.square.specs.Mask.{maskAt}
+use Rattle.square.specs.Inner.{Wrote}
+use Rattle.square.proofs.Runs.{wrote-none, wrote-one}
 use Rattle.table.specs.declared.grid.Part.{Part}
 use Rattle.table.specs.declared.grid.Row.{Row}
 use Rattle.table.specs.declared.grid.Column.{Column}
 use Rattle.table.specs.declared.write.Size.{Size}
-use Rattle.table.specs.declared.supply.Family.{Family}
-use Rattle.table.specs.declared.supply.Family.the-variants.{Array, Cyclic}
-use Rattle.table.specs.Each.{upon}
-use Rattle.table.specs.Table.{tableAt, half, suppliedAt}
-use Rattle.table.specs.Mask.{maskAt}
 use Rattle.table.specs.Plan.{rowAt, rowOf, meets, entry}
-use Rattle.table.specs.Write.{Wrote, cell, cells, keeps, line}
-use Rattle.table.proofs.Places.{square}
-use Rattle.table.proofs.Runs.{wrote-none, wrote-one}
+use Rattle.table.specs.Write.{cell, cells, keeps, line}
 
 module _ (w : Row) (q : Column) (own : Row) (e : own ≡ rowAt (w .part) q) where
   pub meets-one : w .one ≡ own .one → eqb (w .two) (own .two) ≡ meets w q
@@ -54,11 +50,3 @@ pub line-is : (size : Size) (table : List ℤ) (mask : List ℕ) (part : Part) (
     → line size table mask part n ≡ upon b (cells size table mask (rowOf part (n / size .order) (n % size .order)))
 unfolding line
 line-is size table mask part n b e = ap (λ (b : Bool). upon b (cells size table mask (rowOf part (n / size .order) (n % size .order)))) e
-
--- the numbers of the supplied tables are small
-pub half-small : (k : ℕ) → k < 8 → half k < 64
-half-small k h = omega (arith, square k (k - 1) h (omega arith))
-
-pub supplied-small : (family : Family) (J i r : ℕ) → 0 < J → J < 8 → suppliedAt family J i r < 64
-supplied-small Array J i r h k = omega (arith, mod-lt (i * r) h)
-supplied-small Cyclic J i r h k = half-small _ (omega (arith, mod-lt (r + (J - i)) h))

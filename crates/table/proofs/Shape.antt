@@ -9,15 +9,15 @@ use lib.Dec.{eqb}
 use lib.ListN.{length, length-append, length-map}
 use borrow.Author.Tests.{eq-eqb, ne-eqb}
 use Rattle.graph.specs.Count.{one}
+use Rattle.square.specs.Each.{each, upon, grid}
+use Rattle.square.specs.Mask.{maskAt, rowOnes, columnOnes, Common}
+use Rattle.square.proofs.Totals.{total, total-same, total-each, total-none, total-at, total-count, total-once, tally, tally-append, tally-each, tally-upon, tally-all}
 use Rattle.table.specs.declared.grid.Part.{Part}
 use Rattle.table.specs.declared.grid.Part.the-variants.{AJ, AR, JR}
 use Rattle.table.specs.declared.grid.Row.{Row}
 use Rattle.table.specs.declared.grid.Column.{Column}
-use Rattle.table.specs.Each.{each, upon, grid}
-use Rattle.table.specs.Mask.{maskAt, rowOnes, columnOnes, Common}
 use Rattle.table.specs.Plan.{Ones, columns, rows, rowOf, meets, entry, planRows, planCols, tablePlan}
 use Rattle.table.proofs.Listed.{Fixed}
-use Rattle.table.proofs.Totals.{total, total-same, total-each, total-none, total-at, total-count, total-once, tally, tally-append, tally-each, tally-upon, tally-all}
 
 abbrev pub point : ℕ → ℕ → ℕ → Column
 point a j r = record { a = a; j = j; r = r }

@@ -9,7 +9,7 @@ use native.Mathlib.Nat.{div-add-mod', mul-le-mul-right, add-zero, zero-add}
 use native.Mathlib.Omega.{arith}
 use lib.Dec.{ltb, eqb}
 use lib.IntN.{ℤ}
-use lib.ListN.{length, getD}
+use lib.ListN.{length, getD, length-map}
 use borrow.Author.Tests.{eqb-true, lt-ltb, le-ltb, ltb-true, not-true}
 use Rattle.refusal.specs.Lowest.{lowest}
 use Rattle.refusal.specs.Place.{firstPlace, somewhere}
@@ -19,21 +19,21 @@ use Rattle.graph.proofs.Decide.{by-bool, by-eq, by-le, both-ways, and-left, and
 use Rattle.graph.proofs.Lists.{Mem, mem-left, mem-append, getD-mem}
 use Rattle.graph.proofs.Count.{mem-range, range-mem, range-append, select-append, member-mem, mem-member}
 use Rattle.exponent.proofs.Numbers.{block-of, place-of, number-low}
+use Rattle.square.specs.Each.{each, upon, grid}
+use Rattle.square.specs.Table.{tableAt, block}
+use Rattle.square.specs.Mask.{maskAt, weight, Common}
+use Rattle.square.proofs.Places.{digit, first-digit}
+use Rattle.square.proofs.Totals.{tally}
 use Rattle.table.specs.declared.grid.Part.{Part}
 use Rattle.table.specs.declared.grid.Part.the-variants.{AJ, AR, JR}
 use Rattle.table.specs.declared.grid.Row.{Row}
 use Rattle.table.specs.declared.grid.Column.{Column}
-use Rattle.table.specs.Each.{each, upon, grid}
-use Rattle.table.specs.Table.{tableAt}
-use Rattle.table.specs.Mask.{maskAt, weight, Common}
-use Rattle.table.specs.Plan.{Ones, columns, rows, rowOf, rowAt, shiftAt, meets, block, entry, tablePlan}
+use Rattle.table.specs.Plan.{Ones, columns, rows, rowOf, rowAt, shiftAt, meets, entry, planRows, planCols, tablePlan}
 use Rattle.table.specs.Build.{buildRules, builtPlan}
 use Rattle.table.specs.Write.{column}
 use Rattle.table.specs.Source004.{S, W, C, E, deletedOnce, deleted, keptColumns, isNumber, keptRows, target, written}
-use Rattle.table.proofs.Places.{digit, first-digit}
 use Rattle.table.proofs.Listed.{mem-map, Column-in, mem-column, columns-selected, Fixed, part-selected}
-use Rattle.table.proofs.Totals.{tally}
-use Rattle.table.proofs.Shape.{row-meets}
+use Rattle.table.proofs.Shape.{columns-count, rows-count, row-meets}
 use Rattle.table.proofs.Accepted.{taken}
 
 -- LISTS
@@ -368,8 +368,20 @@ module _ (J L : ℕ) (s : ℕ → ℕ → ℕ) (bytes : List ℕ) (w : Common J 
       (keptRows J L s mask) (keptColumns J L mask)
       ∙ ap₂ (grid (entry J P s)) rows-named columns-are
 
+  -- and has its rows and columns
+  pub shape-004 : (length (keptRows J L s (maskAt J bytes)) ≡ planRows J L) × (length (keptColumns J L (maskAt J bytes)) ≡ planCols J L)
+  shape-004 = (
+    sym (length-map (keptRows J L s mask) (rowName J)) ∙ ap length rows-named ∙ rows-count J L bytes w,
+    sym (length-map (keptColumns J L mask) (column J)) ∙ ap length columns-are ∙ columns-count J L bytes w,
+  )
+
 -- and so is every plan that `build` builds
 pub built-from-004 : (order lift : ℕ) (table : List ℤ) (mask : List ℕ) (room : ℕ) → lowest (buildRules order lift table mask room) ≡ none
     → map (written lift) (target order (weight order mask) (tableAt order table) (maskAt order mask)) ≡ builtPlan order lift table mask
 unfolding builtPlan
 built-from-004 order lift table mask room e = source-004 order (weight order mask) (tableAt order table) mask (taken order lift table mask room e .of-mask) lift
+
+pub built-shape-004 : (order lift : ℕ) (table : List ℤ) (mask : List ℕ) (room : ℕ) → lowest (buildRules order lift table mask room) ≡ none
+    → (length (keptRows order (weight order mask) (tableAt order table) (maskAt order mask)) ≡ planRows order (weight order mask))
+    × (length (keptColumns order (weight order mask) (maskAt order mask)) ≡ planCols order (weight order mask))
+built-shape-004 order lift table mask room e = shape-004 order (weight order mask) (tableAt order table) mask (taken order lift table mask room e .of-mask)

@@ -11,15 +11,15 @@ use Rattle.refusal.specs.declared.Refusal.the-variants.{Lift, Order, TableLengt
 use Rattle.refusal.specs.Lowest.{Rule, refuse}
 use Rattle.refusal.specs.Place.{firstPlace, somewhere}
 use Rattle.exponent.specs.Limits.{outside}
+use Rattle.square.specs.declared.search.Quad.{Quad}
+use Rattle.square.specs.Table.{tableAt, negative, unsound, firstRepeat}
+use Rattle.square.specs.Mask.{maskAt, common, weight}
 use Rattle.table.specs.declared.Supplied.{Supplied as SuppliedAnswer}
 use Rattle.table.specs.declared.Supplied.the-variants.{Supplied, Refused as NotSupplied}
 use Rattle.table.specs.declared.Built.{Built as BuiltAnswer}
 use Rattle.table.specs.declared.Built.the-variants.{Built, Refused as NotBuilt}
 use Rattle.table.specs.declared.judge.Verdict.{Verdict}
 use Rattle.table.specs.declared.judge.Verdict.the-variants.{Accepted, Refused}
-use Rattle.table.specs.declared.search.Quad.{Quad}
-use Rattle.table.specs.Table.{tableAt, negative, unsound, firstRepeat}
-use Rattle.table.specs.Mask.{maskAt, common, weight}
 use Rattle.table.specs.Plan.{planRows, planCols, tablePlan}
 
 -- what lent memory holds: the new list, or what it held where there is a refusal

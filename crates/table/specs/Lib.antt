@@ -1,6 +1,3 @@
-pub mod Each
-pub mod Table
-pub mod Mask
 pub mod Plan
 pub mod Build
 pub mod Write

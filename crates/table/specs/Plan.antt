@@ -1,14 +1,15 @@
 -- The plan that a table and a mask give (document 01, "Table plans"; 004, sections II and IV), for a common weight L.
 use Prim.Native.Nat.{ℕ, _+_, _*_, _%_}
-use mathlib.Core.Bool.{Bool, cond, _&&_}
+use mathlib.Core.Bool.{Bool, _&&_}
 use mathlib.Core.List.{List, [], _∷_, _++_}
 use lib.Dec.{eqb}
-use lib.IntN.{ℤ, pos, negsuc}
+use lib.IntN.{ℤ}
+use Rattle.square.specs.Each.{each, upon, grid}
+use Rattle.square.specs.Table.{block}
 use Rattle.table.specs.declared.grid.Part.{Part}
 use Rattle.table.specs.declared.grid.Part.the-variants.{AJ, AR, JR}
 use Rattle.table.specs.declared.grid.Row.{Row}
 use Rattle.table.specs.declared.grid.Column.{Column}
-use Rattle.table.specs.Each.{each, upon, grid}
 
 -- the mask as a test: mask(j, r) = 1
 abbrev pub Ones : Type 0
@@ -42,10 +43,6 @@ shiftAt order s JR q = s (q .a) ((q .r + q .j) % order)
 -- row w is the column's row in its part
 abbrev pub meets : Row → Column → Bool
 meets w q = eqb (w .one) (rowAt (w .part) q .one) && eqb (w .two) (rowAt (w .part) q .two)
-
--- a filled block's entry, or −1
-abbrev pub block : Bool → ℕ → ℤ
-block filled e = cond filled (pos e) (negsuc 0)
 
 -- the entry in row w and column q, modulo P
 abbrev pub entry : ℕ → ℕ → (ℕ → ℕ → ℕ) → Row → Column → ℤ

@@ -8,7 +8,7 @@ use lib.Dec.{ltb, eqb}
 use lib.IntN.{ℤ, pos, negsuc}
 use Rattle.refusal.specs.Place.{somewhere}
 use Rattle.graph.specs.Count.{range, below, select, member}
-use Rattle.table.specs.Each.{each, upon, grid}
+use Rattle.square.specs.Each.{each, upon, grid}
 use Rattle.table.specs.Plan.{Ones}
 
 -- (4) D(x): x on the diagonal, ∞ otherwise

@@ -1,35 +1,21 @@
--- What the inner functions require and ensure: squares, numbers by their digits, lines of the mask, and runs of entries that are
--- written into a lent list from a place on.
-use Prim.Native.Nat.{ℕ, _+_, _*_, _/_, _%_, _<_, _≤_}
+-- What the inner functions require and ensure: a lent table and mask in range, columns by their digits, and the runs of entries
+-- that are written into a lent list.
+use Prim.Native.Nat.{ℕ, _*_, _/_, _%_, _<_, _≤_}
 use mathlib.Core.Path.{_≡_}
 use mathlib.Core.Bool.{Bool, true}
 use mathlib.Core.List.{List, [], _∷_}
-use lib.Dec.{eqb}
 use lib.IntN.{ℤ}
-use lib.ListN.{length, getD}
-use lib.Seq.{sets}
-use Rattle.graph.specs.Count.{below, count}
+use lib.ListN.{length}
+use Rattle.square.specs.Each.{each, upon}
+use Rattle.square.specs.Table.{tableAt}
+use Rattle.square.specs.Mask.{maskAt}
+use Rattle.square.specs.Inner.{Square}
 use Rattle.table.specs.declared.grid.Part.{Part}
 use Rattle.table.specs.declared.grid.Part.the-variants.{AJ, AR, JR}
 use Rattle.table.specs.declared.grid.Row.{Row}
 use Rattle.table.specs.declared.grid.Column.{Column}
-use Rattle.table.specs.declared.search.Quad.{Quad}
 use Rattle.table.specs.declared.write.Size.{Size}
-use Rattle.table.specs.Each.{each, upon}
-use Rattle.table.specs.Table.{tableAt}
-use Rattle.table.specs.Mask.{maskAt}
 use Rattle.table.specs.Plan.{rowOf, entry, tablePlan}
-
--- the list l with xs written from the place at on, and the place after them
-pub record Wrote {A : Type 0} (l : List A) (at : ℕ) (xs : List A) (l′ : List A) (at′ : ℕ) : Type 0 where
-  pub list : l′ ≡ sets l at xs
-  pub place : at′ ≡ at + length xs
-
--- the lent table is square, of a small order
-pub record Square (order : ℕ) (table : List ℤ) : Type 0 where
-  pub some-rows : 0 < order
-  pub small : order < 8
-  pub whole : length table ≡ order * order
 
 -- the lent table, mask and numbers are in range
 pub record Ready (size : Size) (table : List ℤ) (mask : List ℕ) : Type 0 where
@@ -39,12 +25,9 @@ pub record Ready (size : Size) (table : List ℤ) (mask : List ℕ) : Type 0 whe
   pub some-lift : 0 < size .lift
   pub small-lift : size .lift ≤ 4096
 
--- the numbers to the base order that n is written with: rising n are rising triples, and rising quadruples
+-- the numbers to the base order that n is written with: rising n are rising triples
 abbrev pub column : ℕ → ℕ → Column
 column order n = record { a = n / order / order; j = n / order % order; r = n % order }
-
-abbrev pub quad : ℕ → ℕ → Quad
-quad order n = record { i = n / order / order / order; k = n / order / order % order; r = n / order % order; t = n % order }
 
 -- a column's numbers are below the order
 pub record Within (order : ℕ) (q : Column) : Type 0 where
@@ -78,14 +61,3 @@ line size table mask part n =
 
 unfoldable pub lines : Size → List ℤ → List ℕ → Part → ℕ → List ℤ
 lines size table mask part n = each n (line size table mask part)
-
--- the ones of a line of the mask: of the bytes at from, from + step, …
-unfoldable pub lineOnes : ℕ → List ℕ → ℕ → ℕ → ℕ
-lineOnes order mask from step = count (λ k. eqb (getD mask (from + k * step) 0) 1) (below order)
-
--- lines that begin at 0, across, 2 * across, … and go on by step lie within the mask
-pub record Lines (order : ℕ) (mask : List ℕ) (across step : ℕ) : Type 0 where
-  pub small : order < 8
-  pub small-across : across < 8
-  pub small-step : step < 8
-  pub inside : (j k : ℕ) → j < order → k < order → j * across + k * step < length mask

@@ -1,10 +1,11 @@
-use crate::search;
-use crate::signed;
+use square::search;
+use square::signed;
 ghost use mathlib.Core.Path.{_≡_};
 ghost use Prim.Native.Nat.{_<_, _≤_};
-ghost use Rattle.table.specs.Table.{tableAt};
+ghost use Rattle.square.specs.Table.{tableAt};
+ghost use Rattle.square.specs.Inner.{Square};
 ghost use Rattle.table.specs.Plan.{rowAt, shiftAt, meets, entry};
-ghost use Rattle.table.specs.Write.{Square, Within, column};
+ghost use Rattle.table.specs.Write.{Within, column};
 
 // The three parts of the rows: pairs (a, j), pairs (a, r), pairs (j, r).
 pub enum Part {

@@ -1,11 +1,11 @@
-use crate::mask;
-use crate::search;
 use exponent::limits;
 use refusal::Refusal;
+use square::mask;
+use square::search;
 ghost use mathlib.Core.Path.{_≡_};
 ghost use Prim.Native.Nat.{_<_, _≤_};
 ghost use Rattle.refusal.specs.Lowest.{lowest};
-ghost use Rattle.table.specs.Mask.{weight};
+ghost use Rattle.square.specs.Mask.{weight};
 ghost use Rattle.table.specs.Build.{tableRules, maskRules, buildRules, verdict};
 
 // Whether a plan may be built, and the mask's common weight L; or why not.

@@ -1,23 +1,20 @@
-// Table plans: the exponent matrix (document 01: plan) that a table and a mask give, and two tables to build it from.
+// Table plans: the exponent matrix (document 01: plan) that a table and a mask give, and the calls that supply a table.
 ghost use mathlib.Core.Path.{_≡_};
 ghost use lib.ListN.{length};
 ghost use Rattle.refusal.specs.Lowest.{lowest};
-ghost use Rattle.table.specs.declared.supply.Family.the-variants.{Array, Cyclic};
-ghost use Rattle.table.specs.Table.{suppliedTable};
-ghost use Rattle.table.specs.Mask.{weight};
+ghost use Rattle.square.specs.declared.supply.Family.the-variants.{Array, Cyclic};
+ghost use Rattle.square.specs.Table.{suppliedTable};
+ghost use Rattle.square.specs.Mask.{weight};
 ghost use Rattle.table.specs.Build.{lent, supplyRules, supplied, buildRules, builtPlan, built};
 
-pub mod signed; // signed.rt: signed numbers, read and made in one place each
-pub mod search; // search.rt: refusal 10, the first difference that repeats
-pub mod mask; // mask.rt: the tests behind refusals 11 and 12
 pub mod grid; // grid.rt: the plan's rows and columns, and the entry at both
 pub mod write; // write.rt: the plan, written row by row
 pub mod judge; // judge.rt: refusals 3, 7 to 13 and 15 in their order
-pub mod supply; // supply.rt: the two supplied tables
+pub mod supply; // supply.rt: a supplied table, or refusals 7 and 8
 
 use judge::Verdict;
 use refusal::Refusal;
-use supply::Family;
+use square::supply::Family;
 use write::Size;
 
 // What a call that supplies a table answers.

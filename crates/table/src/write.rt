@@ -6,7 +6,8 @@ ghost use mathlib.Core.Path.{_≡_};
 ghost use Prim.Native.Nat.{_+_, _*_, _<_, _≤_};
 ghost use lib.Dec.{eqb};
 ghost use lib.ListN.{length};
-ghost use Rattle.table.specs.Write.{Wrote, Ready, Within, cell, cells, keeps, line, lines, planOf};
+ghost use Rattle.square.specs.Inner.{Wrote};
+ghost use Rattle.table.specs.Write.{Ready, Within, cell, cells, keeps, line, lines, planOf};
 
 // The numbers J, L and P of a plan.
 pub struct Size {

@@ -1,10 +1,10 @@
 -- `alist::compare_valid` meets its contract. Assumes nothing.
 use mathlib.Core.Path.{sym, _∙_}
 use borrow.Author.Needs.{needs}
-use Rattle.alist.specs.Alist.{linesOf}
+use Rattle.tokens.specs.Tokens.{mismatch}
+use Rattle.lines.specs.Alist.{linesOf}
+use Rattle.lines.specs.Sides.{graph}
 use Rattle.alist.specs.Text.{numbersOf}
-use Rattle.alist.specs.Tokens.{mismatch}
-use Rattle.alist.specs.Sides.{graph}
 use Rattle.alist.proofs.Answers.{verdict-same, verdict-differs}
 use Rattle.alist.proofs.compare_valid.Statement.{statement}
 use Rattle.alist.proofs.compare_valid.Tie as tie

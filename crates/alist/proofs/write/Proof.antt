@@ -24,7 +24,7 @@ returns : tie.Need-returns
 returns c =
     let w = c .before .before in
     let v = w .before .before .before .before in
-    rw (write-valid _ _ _ _ _ (v .validate .ensures) (w .before .before .enum-told .given .1) _) (w .write-valid .ensures)
+    rw (write-valid _ _ _ _ _ (v .validate .ensures) (w .before .before .enum-told .given .1) _) (w .write-valid .ensures .answer, w .write-valid .ensures .place)
 
 returns-2 : tie.Need-returns-2
 returns-2 c =

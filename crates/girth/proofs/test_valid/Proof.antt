@@ -5,6 +5,7 @@ use native.Mathlib.Nat.{mul-le-mul}
 use native.Mathlib.Omega.{arith}
 use lib.ListN.{length, replicate, length-replicate}
 use borrow.Author.Needs.{needs}
+use Rattle.exponent.proofs.Skips.{index-made, index-kept}
 use Rattle.girth.proofs.test_valid.Statement.{statement}
 use Rattle.girth.proofs.test_valid.Tie as tie
 
@@ -13,10 +14,10 @@ room : (n a k : ℕ) → k ≤ n → k ≤ length (replicate n a)
 room n a k h = rw length-replicate h
 
 slice-aggregate-build : tie.Need-slice-aggregate-build
-slice-aggregate-build c = search needs
+slice-aggregate-build c = index-made
 
 slice-aggregate-build-2 : tie.Need-slice-aggregate-build-2
-slice-aggregate-build-2 c = search needs
+slice-aggregate-build-2 c = index-made
 
 build-requires : tie.Need-build-requires
 build-requires c κs =
@@ -25,10 +26,10 @@ build-requires c κs =
     (w, room 98304 0 _ h, room 98304 0 _ h)
 
 slice-aggregate-shortest-below : tie.Need-slice-aggregate-shortest-below
-slice-aggregate-shortest-below c = search needs
+slice-aggregate-shortest-below c = index-kept (c .before .before .before .build .kept .1 .1 .0)
 
 slice-aggregate-shortest-below-2 : tie.Need-slice-aggregate-shortest-below-2
-slice-aggregate-shortest-below-2 c = search needs
+slice-aggregate-shortest-below-2 c = index-kept (c .before .before .before .before .build .kept .1 .1 .1 .0)
 
 shortest-below-requires : tie.Need-shortest-below-requires
 shortest-below-requires c κs =

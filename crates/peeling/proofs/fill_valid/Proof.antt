@@ -3,7 +3,7 @@
 use mathlib.Core.Path.{sym, ap, _∙_}
 use native.Mathlib.Omega.{arith}
 use borrow.Author.Needs.{needs}
-use Rattle.exponent.proofs.Skips.{place-small}
+use Rattle.exponent.proofs.Skips.{place-small, index-made, index-kept}
 use Rattle.peeling.specs.declared.Filling.the-variants.{Filled}
 use Rattle.peeling.proofs.Ends.{refused-answer, refused-word, filled-answer, filled-word}
 use Rattle.peeling.proofs.fill_valid.Statement.{statement}
@@ -17,10 +17,10 @@ abbrev start : tie.After-peel → tie.Start
 start c = c .before .before .before .before .before .before .before .before .before .before
 
 slice-aggregate-build : tie.Need-slice-aggregate-build
-slice-aggregate-build c = search needs
+slice-aggregate-build c = index-made
 
 slice-aggregate-build-2 : tie.Need-slice-aggregate-build-2
-slice-aggregate-build-2 c = search needs
+slice-aggregate-build-2 c = index-made
 
 build-requires : tie.Need-build-requires
 build-requires c κs =
@@ -29,16 +29,16 @@ build-requires c κs =
     (p, omega arith, omega arith)
 
 slice-aggregate-peel : tie.Need-slice-aggregate-peel
-slice-aggregate-peel c = search needs
+slice-aggregate-peel c = index-kept (c .before .before .before .build .kept .1 .1 .0)
 
 slice-aggregate-peel-2 : tie.Need-slice-aggregate-peel-2
-slice-aggregate-peel-2 c = search needs
+slice-aggregate-peel-2 c = index-kept (c .before .before .before .before .build .kept .1 .1 .1 .0)
 
 peel-requires : tie.Need-peel-requires
 peel-requires c κs = search needs
 
 slice-aggregate-has-clash : tie.Need-slice-aggregate-has-clash
-slice-aggregate-has-clash c = search needs
+slice-aggregate-has-clash c = index-kept (c .before .before .before .before .before .before .before .before .before .build .kept .1 .1 .1 .0)
 
 has-clash-requires : tie.Need-has-clash-requires
 has-clash-requires c κs = search needs

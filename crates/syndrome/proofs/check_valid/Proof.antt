@@ -4,16 +4,16 @@ use mathlib.Core.Path.{sym}
 use native.Mathlib.Omega.{arith}
 use borrow.Author.Needs.{needs}
 use borrow.Author.Tests.{lt-ltb, le-ltb}
-use Rattle.exponent.proofs.Skips.{place-small}
+use Rattle.exponent.proofs.Skips.{place-small, index-made, index-kept}
 use Rattle.syndrome.proofs.Odds.{few-checks}
 use Rattle.syndrome.proofs.check_valid.Statement.{statement}
 use Rattle.syndrome.proofs.check_valid.Tie as tie
 
 slice-aggregate-build : tie.Need-slice-aggregate-build
-slice-aggregate-build c = search needs
+slice-aggregate-build c = index-made
 
 slice-aggregate-build-2 : tie.Need-slice-aggregate-build-2
-slice-aggregate-build-2 c = search needs
+slice-aggregate-build-2 c = index-made
 
 build-requires : tie.Need-build-requires
 build-requires c κs =
@@ -22,7 +22,7 @@ build-requires c κs =
     (p, omega arith, omega arith)
 
 slice-aggregate-lowest-odd : tie.Need-slice-aggregate-lowest-odd
-slice-aggregate-lowest-odd c = search needs
+slice-aggregate-lowest-odd c = index-kept (c .before .before .before .build .kept .1 .1 .1 .0)
 
 lowest-odd-requires : tie.Need-lowest-odd-requires
 lowest-odd-requires c κs = search needs

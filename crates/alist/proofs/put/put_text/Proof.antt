@@ -6,14 +6,14 @@ use mathlib.Core.List.{_∷_}
 use native.Mathlib.Omega.{arith}
 use lib.ListN.{length}
 use borrow.Author.Needs.{needs}
-use Rattle.alist.specs.declared.sides.Side.the-variants.{Bits, Checks}
-use Rattle.alist.specs.Alist.{linesOf}
+use Rattle.lines.specs.declared.sides.Side.the-variants.{Bits, Checks}
+use Rattle.lines.specs.Alist.{linesOf}
+use Rattle.lines.specs.Sides.{graph, Small}
+use Rattle.lines.specs.Lines.{lineOf}
+use Rattle.lines.proofs.Lanes.{small, nodes-few}
+use Rattle.lines.proofs.Rest.{linesFrom, lines-start, lines-next, lines-end}
 use Rattle.alist.specs.Text.{lineFrom, textOf}
-use Rattle.alist.specs.Sides.{graph, Small}
-use Rattle.alist.specs.Lines.{lineOf}
-use Rattle.alist.proofs.Lanes.{small, nodes-few}
 use Rattle.alist.proofs.Laid.{Going, going-start, part-room, part-done, all-done, text-next, text-end}
-use Rattle.alist.proofs.Rest.{linesFrom, lines-start, lines-next, lines-end}
 use Rattle.alist.proofs.put.put_text.Statement.{statement}
 use Rattle.alist.proofs.put.put_text.Tie as tie
 

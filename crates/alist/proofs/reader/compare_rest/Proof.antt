@@ -45,10 +45,10 @@ use denote.Triple.Walked.{says, needs, Stays, stay-none, stay-none-slice, walkOf
 use denote.Exit.{yes}
 use denote.Triple.Clauses.{ensured, lasts}
 use Rattle.exponent.specs.Limits.{WellFormed}
-use Rattle.alist.specs.Alist.{linesOf}
+use Rattle.lines.specs.Alist.{linesOf}
 use Rattle.alist.specs.Text.{numbersOf}
-use Rattle.alist.specs.Tokens.{mismatch}
-use Rattle.alist.specs.Sides.{graph}
+use Rattle.tokens.specs.Tokens.{mismatch}
+use Rattle.lines.specs.Sides.{graph}
 use Rattle.alist.specs.Steps.{verdict}
 use Rattle.alist.specs.declared.reader.Reader.{Reader}
 use Rattle.exponent.specs.declared.index.Shape.{Shape}

@@ -43,17 +43,17 @@ use denote.Triple.Table.{entered, cited}
 use denote.Triple.Walked.{says, Stays, stay-none, walkOf, goes-none, Walks, ends-at, walked, walk-meets}
 use denote.Exit.{yes}
 use denote.Triple.Clauses.{ensured, lasts}
-use Rattle.alist.specs.Steps.{expectAt}
+use Rattle.tokens.specs.Steps.{expectAt}
 use Rattle.alist.specs.declared.reader.Reader.{Reader}
-use Rattle.alist.specs.declared.tokens.Step.{Step}
+use Rattle.tokens.specs.declared.Step.{Step}
 use Rattle.alist.proofs.reader.Reader as T
 use Rattle.alist.proofs.reader.Reader.Laws as T′
-use Rattle.alist.proofs.tokens.Step as S
-use Rattle.alist.proofs.tokens.Step.Laws as S′
-use Rattle.alist.proofs.tokens.expect_at as step
-use Rattle.alist.proofs.tokens.expect_at.Symbol as step-def
-use Rattle.alist.proofs.tokens.expect_at.Symbol.{name as #alist·expect-at}
-use Rattle.alist.proofs.tokens.expect_at.Met as step-thm
+use Rattle.tokens.proofs.Step as S
+use Rattle.tokens.proofs.Step.Laws as S′
+use Rattle.tokens.proofs.expect_at as step
+use Rattle.tokens.proofs.expect_at.Symbol as step-def
+use Rattle.tokens.proofs.expect_at.Symbol.{name as #tokens·expect-at}
+use Rattle.tokens.proofs.expect_at.Met as step-thm
 use Rattle.alist.proofs.reader.expect.Key.{name as #alist·expect}
 use Rattle.alist.proofs.reader.expect as expect
 use Rattle.alist.proofs.reader.expect.Statement as stated
@@ -131,7 +131,7 @@ module _ {M : Type 1} (𝓤 : URA M) (H : Heap 𝓤) (A : Atoms 𝓤) (W : Given
       suffices ! _ (ends-at 𝓤 H A expect.ended stayed (expect.clauses 𝓤 H A mem run) W (((κ, tt), (q, tt), tt, (d, (n, tt)), at), tt) u r (tt, (tt, tt)) (tt, (tt, tt))) $ says ! e $
       move ! (1 ∷ []) $ frame ! $ nothing ! $ owned ! usize (Is usize) (uint-makes 𝓤 H A W w64) n _ (refl, ok) $ fjoin ! $ move ! (2 ∷ 0 ∷ []) $ fjoin ! $ frame ! $ done !
 
-  module _ (C : Calls 𝓤 H) (Λ : Loops 𝓤 H) (fm : FmC 𝓤 H (W .laws) C) (known : Triple 𝓤 (C #alist·expect-at) (ExpectAt 𝓤 H A mem run)) where
+  module _ (C : Calls 𝓤 H) (Λ : Loops 𝓤 H) (fm : FmC 𝓤 H (W .laws) C) (known : Triple 𝓤 (C #tokens·expect-at) (ExpectAt 𝓤 H A mem run)) where
     walk : Holds (hasTy (T′.mir (named 0)) mach) × WT mach → ent 𝓤 (onEntry 𝓤 H A expect.signature (κ, tt) (q, tt) (d, (n, tt)) at) (WpFn 𝓤 H C Λ code.function (mach ∷ vint w64 n ∷ []) Post)
     walk wt =
         qed W (raw (onEntry 𝓤 H A expect.signature (κ, tt) (q, tt) (d, (n, tt)) at) ∷ []) ∵ enter ! C Λ code.function (mach ∷ vint w64 n ∷ []) _ $
@@ -149,13 +149,13 @@ module _ {M : Type 1} (𝓤 : URA M) (H : Heap 𝓤) (A : Atoms 𝓤) (W : Given
         move ! (11 ∷ 12 ∷ []) $ free1 ! $ move ! (9 ∷ 10 ∷ []) $ free1 ! $ move ! (7 ∷ 8 ∷ []) $ free1 ! $ move ! (5 ∷ 6 ∷ []) $ free1 ! $ move ! (3 ∷ 4 ∷ []) $ free1 ! $ free0 ! $ by ! (exits r u e))))))))))
 
 module _ {M : Type 1} (𝓤 : URA M) (H : Heap 𝓤) (A : Atoms 𝓤) (W : Given 𝓤 H A) (mem : Memory → SProp 𝓤) (run : Routine → Fun 𝓤) where
-  expect-walks : (C : Calls 𝓤 H) (Λ : Loops 𝓤 H) → FmC 𝓤 H (W .laws) C → Triple 𝓤 (C #alist·expect-at) (ExpectAt 𝓤 H A mem run)
+  expect-walks : (C : Calls 𝓤 H) (Λ : Loops 𝓤 H) → FmC 𝓤 H (W .laws) C → Triple 𝓤 (C #tokens·expect-at) (ExpectAt 𝓤 H A mem run)
       → Walks 𝓤 H A expect.ended stayed (WpFn 𝓤 H C Λ code.function) (expect.clauses 𝓤 H A mem run)
   expect-walks C Λ fm known = walked 𝓤 H A expect.ended stayed (expect.clauses 𝓤 H A mem run) (WpFn 𝓤 H C Λ code.function) (λ κs. (LL.vals (T.the-type (namedLft 1 0 tt κs)) (T′.the-laws (namedLft 1 0 tt κs)), (uint-vals w64, tt))) (λ κs. (LL.tells (T.the-type (namedLft 1 0 tt κs)) (T′.the-laws (namedLft 1 0 tt κs)), (uint-tells w64, tt)))
       (λ κs qs bounds a g are. via 𝓤 _ (fst∗ 𝓤 _ (emp 𝓤)) (walk 𝓤 H A W mem run (κs .0) (qs .0) (a .0) (a .1 .0) (are .1 .0 .1) C Λ fm known (LL.lawful (T.the-type (namedLft 1 0 tt κs)) (T′.the-laws (namedLft 1 0 tt κs)) 𝓤 H A W .typed (a .0) _ (are .0) .0)))
 
 expect-meets : {M : Type 1} (𝓤 : URA M) (H : Heap 𝓤) (A : Atoms 𝓤) (W : Given 𝓤 H A) (mem : Memory → SProp 𝓤) (run : Routine → Fun 𝓤) (𝓣 : Tables 𝓤 H)
-    → Triple 𝓤 (𝓣 .C #alist·expect-at) (ExpectAt 𝓤 H A mem run)
+    → Triple 𝓤 (𝓣 .C #tokens·expect-at) (ExpectAt 𝓤 H A mem run)
     → Meets 𝓤 H A expect.signature (WpFn 𝓤 H (𝓣 .C) (𝓣 .Λ) code.function) (expect.spec 𝓤 H A mem run)
 expect-meets 𝓤 H A W mem run 𝓣 known-step = walk-meets 𝓤 H A expect.ended stayed W (goes-none 𝓤 H A W 1 B yes (λ κs x f. refl), (goes-none 𝓤 H A W 1 (λ _. usize) yes (λ κs x f. refl), tt)) (expect.clauses 𝓤 H A mem run) (WpFn 𝓤 H (𝓣 .C) (𝓣 .Λ) code.function) (WpFn-mono 𝓤 H (W .laws) 𝓣 code.function)
     (expect-walks 𝓤 H A W mem run (𝓣 .C) (𝓣 .Λ) (fmOf 𝓤 H (W .laws) 𝓣) known-step)
@@ -166,4 +166,4 @@ expect-spec 𝓤 H 𝓜 𝓖 𝓡 =
     entered 𝓤 H (tripleOf 𝓤 H (𝓖 .A) expect.signature (expect.spec 𝓤 H (𝓖 .A) (𝓜 .mem) (𝓡 .run)))
     (tables 𝓤 H 𝓜 𝓡 code.env .C) (tables 𝓤 H 𝓜 𝓡 code.env .Λ) #alist·expect code.function (code.unfolded 𝓤 H 𝓜 𝓡)
     (expect-meets 𝓤 H (𝓖 .A) (givenOf 𝓤 H 𝓜 𝓖) (𝓜 .mem) (𝓡 .run) (tablesOf 𝓤 H 𝓜 (tables 𝓤 H 𝓜 𝓡 code.env))
-    (cited 𝓤 H (ExpectAt 𝓤 H (𝓖 .A) (𝓜 .mem) (𝓡 .run)) 𝓜 𝓡 code.env #alist·expect-at step-def.routine code.calls-alist·tokens·expect-at (step-thm.met 𝓤 H 𝓜 𝓖 𝓡)))
+    (cited 𝓤 H (ExpectAt 𝓤 H (𝓖 .A) (𝓜 .mem) (𝓡 .run)) 𝓜 𝓡 code.env #tokens·expect-at step-def.routine code.calls-tokens·expect-at (step-thm.met 𝓤 H 𝓜 𝓖 𝓡)))

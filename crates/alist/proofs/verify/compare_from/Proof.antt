@@ -1,21 +1,22 @@
 -- `alist::verify::compare_from` meets its contract. Assumes nothing.
 use mathlib.Core.Path.{ap, _∙_}
 use borrow.Author.Needs.{needs}
+use Rattle.exponent.proofs.Skips.{index-made, index-kept}
 use Rattle.exponent.specs.declared.index.Shape.{Shape}
-use Rattle.alist.specs.Alist.{linesOf}
+use Rattle.tokens.specs.Tokens.{mismatch}
+use Rattle.lines.specs.Alist.{linesOf}
+use Rattle.lines.specs.Sides.{graph}
+use Rattle.lines.proofs.Lanes.{index-room}
 use Rattle.alist.specs.Text.{numbersOf}
-use Rattle.alist.specs.Tokens.{mismatch}
-use Rattle.alist.specs.Sides.{graph}
 use Rattle.alist.specs.Steps.{verdict}
-use Rattle.alist.proofs.Lanes.{index-room}
 use Rattle.alist.proofs.verify.compare_from.Statement.{statement}
 use Rattle.alist.proofs.verify.compare_from.Tie as tie
 
 slice-aggregate-build : tie.Need-slice-aggregate-build
-slice-aggregate-build c = search needs
+slice-aggregate-build c = index-made
 
 slice-aggregate-build-2 : tie.Need-slice-aggregate-build-2
-slice-aggregate-build-2 c = search needs
+slice-aggregate-build-2 c = index-made
 
 build-requires : tie.Need-build-requires
 build-requires c κs =
@@ -24,19 +25,19 @@ build-requires c κs =
     (t .pre .0, h, h)
 
 slice-aggregate-measure : tie.Need-slice-aggregate-measure
-slice-aggregate-measure c = search needs
+slice-aggregate-measure c = index-kept (c .before .before .before .build .kept .1 .1 .0)
 
 slice-aggregate-measure-2 : tie.Need-slice-aggregate-measure-2
-slice-aggregate-measure-2 c = search needs
+slice-aggregate-measure-2 c = index-kept (c .before .before .before .before .build .kept .1 .1 .1 .0)
 
 measure-requires : tie.Need-measure-requires
 measure-requires c κs = search needs
 
 slice-aggregate-compare-lines : tie.Need-slice-aggregate-compare-lines
-slice-aggregate-compare-lines c = search needs
+slice-aggregate-compare-lines c = index-kept (c .before .before .before .before .before .before .build .kept .1 .1 .0)
 
 slice-aggregate-compare-lines-2 : tie.Need-slice-aggregate-compare-lines-2
-slice-aggregate-compare-lines-2 c = search needs
+slice-aggregate-compare-lines-2 c = index-kept (c .before .before .before .before .before .before .before .build .kept .1 .1 .1 .0)
 
 compare-lines-requires : tie.Need-compare-lines-requires
 compare-lines-requires c κs = search needs

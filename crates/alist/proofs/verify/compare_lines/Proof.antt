@@ -6,16 +6,17 @@ use mathlib.Core.List.{List, [], _∷_}
 use native.Mathlib.Omega.{arith}
 use lib.ListN.{length}
 use borrow.Author.Needs.{needs}
-use Rattle.alist.specs.declared.sides.Side.the-variants.{Bits, Checks}
-use Rattle.alist.specs.Alist.{linesOf}
+use Rattle.tokens.specs.Tokens.{mismatch}
+use Rattle.tokens.proofs.Reading.{line-le}
+use Rattle.lines.specs.declared.sides.Side.the-variants.{Bits, Checks}
+use Rattle.lines.specs.Alist.{linesOf}
+use Rattle.lines.specs.Sides.{graph, Small}
+use Rattle.lines.specs.Lines.{lineOf}
+use Rattle.lines.proofs.Lanes.{small, nodes-few}
+use Rattle.lines.proofs.Rest.{linesFrom, lines-start, lines-next, lines-end}
 use Rattle.alist.specs.Text.{numbersOf}
-use Rattle.alist.specs.Tokens.{mismatch}
-use Rattle.alist.specs.Sides.{graph, Small}
-use Rattle.alist.specs.Lines.{lineOf}
 use Rattle.alist.specs.Steps.{verdict}
-use Rattle.alist.proofs.Lanes.{small, nodes-few}
-use Rattle.alist.proofs.Rest.{linesFrom, lines-start, lines-next, lines-end}
-use Rattle.alist.proofs.Reading.{line-le, line-right, line-wrong, extra, agrees}
+use Rattle.alist.proofs.Reading.{line-right, line-wrong, extra, agrees}
 use Rattle.alist.proofs.verify.compare_lines.Statement.{statement}
 use Rattle.alist.proofs.verify.compare_lines.Tie as tie
 

@@ -4,18 +4,18 @@ use Prim.Native.Nat.{_-_, _≤_}
 use mathlib.Core.Path.{_≡_, sym, ap, _∙_}
 use lib.ListN.{length}
 use borrow.Author.Needs.{needs}
-use Rattle.alist.specs.Sides.{graph}
-use Rattle.alist.specs.Lines.{lineOf, lineRest}
-use Rattle.alist.specs.Steps.{readLine}
-use Rattle.alist.proofs.Lanes.{small}
-use Rattle.alist.proofs.Rest.{line-start, line-end}
-use Rattle.alist.proofs.Reading.{expect-le, read-next, read-wrong, read-end}
+use Rattle.tokens.specs.Steps.{readLine}
+use Rattle.tokens.proofs.Reading.{expect-le, read-next, read-wrong, read-end}
+use Rattle.lines.specs.Sides.{graph}
+use Rattle.lines.specs.Lines.{lineOf, lineRest, Carried}
+use Rattle.lines.proofs.Lanes.{small}
+use Rattle.lines.proofs.Rest.{line-start, line-end, carried-start}
 use Rattle.alist.proofs.verify.expect_line.Statement.{statement}
 use Rattle.alist.proofs.verify.expect_line.Tie as tie
 
 abbrev Inv-loop : tie.InvT-loop
 Inv-loop text plan down along l line w at₀ k₀ from₀ at k from =
-    (at ≤ length text) × (readLine text at₀ (lineOf (graph plan (l .shape)) line) ≡ readLine text at (lineRest plan l line k from))
+    (at ≤ length text) × (readLine text at₀ (lineOf (graph plan (l .shape)) line) ≡ readLine text at (lineRest plan l line k from)) × Carried plan l line k from
 
 abbrev μ-loop : tie.MeasureT-loop
 μ-loop text plan down along l line w at₀ k₀ from₀ at k from = w - k
@@ -26,10 +26,10 @@ width-requires c κs = let t = c .before .before .before in small _ (t .args .l 
 loop-holds : tie.Need-loop-holds Inv-loop μ-loop
 loop-holds c =
     let t = c .before .before .before .before in
-    (t .pre .2, ap (readLine (t .args .text .now) (t .args .c .at)) (sym (line-start (t .args .plan .now) (t .args .l) _ _ (t .pre .0) (t .args .line))))
+    (t .pre .2, ap (readLine (t .args .text .now) (t .args .c .at)) (sym (line-start (t .args .plan .now) (t .args .l) _ _ (t .pre .0) (t .args .line))), carried-start (t .args .plan .now) (t .args .l) (t .args .line) (t .pre .0 .ready .well .some-lift))
 
 number-at-requires : tie.Need-number-at-requires Inv-loop μ-loop
-number-at-requires c κs = let t = c .before .before .before .before .before .before in (t .pre .0, t .pre .1, rw (c .before .before .width .ensures) at (c .loop-test .taken))
+number-at-requires c κs = let t = c .before .before .before .before .before .before in (t .pre .0, t .pre .1, rw (c .before .before .width .ensures) at (c .loop-test .taken), c .before .loop .inv .2)
 
 expect-number-requires : tie.Need-expect-number-requires Inv-loop μ-loop
 expect-number-requires c κs = search needs
@@ -43,7 +43,7 @@ enum-known-p c = search needs
 returns : tie.Need-returns Inv-loop μ-loop
 returns c =
     let f = c .before .before .before in
-    sym (f .before .before .before .loop .inv .1 ∙ read-wrong _ _ _ _ (f .expect-number .ensures) _ _ (f .before .number-at .ensures) _ (c .before .p .given .1))
+    sym (f .before .before .before .loop .inv .1 ∙ read-wrong _ _ _ _ (f .expect-number .ensures) _ _ (f .before .number-at .ensures .0) _ (c .before .p .given .1))
 
 add-k : tie.Need-add-k Inv-loop μ-loop
 add-k c = search needs
@@ -56,7 +56,8 @@ loop-again c =
     let f = c .before .before .before in
     let v = f .before .before .before .loop .inv in (
       expect-le _ _ _ _ (f .expect-number .ensures) _ (c .before .next .given .1) (v .0),
-      v .1 ∙ read-next _ _ _ _ (f .expect-number .ensures) _ _ (f .before .number-at .ensures) _ (c .before .next .given .1),
+      v .1 ∙ read-next _ _ _ _ (f .expect-number .ensures) _ _ (f .before .number-at .ensures .0) _ (c .before .next .given .1),
+      f .before .number-at .ensures .1,
     )
 
 returns-2 : tie.Need-returns-2 Inv-loop μ-loop

@@ -13,11 +13,16 @@ use Rattle.syndrome.proofs.scan.add_block.Statement.{statement}
 use Rattle.syndrome.proofs.scan.add_block.Tie as tie
 
 -- the bit lies in the word
-low : (c : tie.After-known-told) → let a = c .before .before .before .before .args in
-    a .j * a .lift + (a .y + c .before .b .given .0 .0) % a .lift < length (a .word .now)
+low : (c : tie.After-wrap) → let a = c .before .before .before .before .before .args in
+    a .j * a .lift + c .wrap .result < length (a .word .now)
 low c =
-    let s = c .before .before .before .before in
-    omega (arith, mod-lt (s .args .y + c .before .b .given .0 .0) {m = s .args .lift} (omega arith))
+    let a = c .before .before .before .before .before .args in
+    omega (arith, c .wrap .ensures, mod-lt (a .y + c .before .before .b .given .0 .0) {m = a .lift} (omega arith))
+
+-- the shift lies below the lift
+shifted : (c : tie.After-known-told) → c .before .b .given .0 .0 < c .before .before .before .before .args .lift
+unfolding Shifted
+shifted c = c .before .before .before .before .pre .0 _ (c .before .b .given .1)
 
 enum-told : tie.Need-enum-told
 enum-told c = search needs
@@ -31,15 +36,14 @@ enum-known-b c = search needs
 mul-at : tie.Need-mul-at
 mul-at c = search needs
 
+add-wrap : tie.Need-add-wrap
+add-wrap c = omega (arith, shifted c)
+
+wrap-requires : tie.Need-wrap-requires
+wrap-requires c κs = omega (arith, shifted c)
+
 add-at : tie.Need-add-at
-unfolding Shifted
-add-at c = omega (arith, c .before .before .before .before .pre .0 _ (c .before .b .given .1))
-
-rem-at : tie.Need-rem-at
-rem-at c = search needs
-
-add-at-2 : tie.Need-add-at-2
-add-at-2 c = omega (arith, low c)
+add-at c = omega (arith, low c)
 
 shared-slice-read-add-bit : tie.Need-shared-slice-read-add-bit
 shared-slice-read-add-bit c = low (c .before)
@@ -54,7 +58,9 @@ returns-2 : tie.Need-returns-2
 returns-2 c = added-none _ _ _ _ _ _ (ap filled (c .enum-told2 .given .1))
 
 returns-3 : tie.Need-returns-3
-returns-3 c = added-shift _ _ _ _ _ _ _ _ (c .before .before .before .b .given .1) (c .add-bit .ensures)
+returns-3 c =
+    let w = c .before .before in
+    added-shift _ _ _ _ _ _ _ _ (w .before .before .b .given .1) (rw (w .wrap .ensures) at (c .add-bit .ensures))
 
 pub add-block-spec : {M : Type 1} → statement M
 add-block-spec =
@@ -64,9 +70,9 @@ add-block-spec =
     enum-told-2
     enum-known-b
     mul-at
+    add-wrap
+    wrap-requires
     add-at
-    rem-at
-    add-at-2
     shared-slice-read-add-bit
     add-bit-requires
     returns

@@ -6,7 +6,7 @@ use native.Mathlib.Nat.{mod-lt, le-trans}
 use mir.Syntax.{w16}
 use mir.Val.{toZ, ofZ}
 use borrow.Author.Needs.{needs}
-use Rattle.table.specs.Plan.{block}
+use Rattle.square.specs.Table.{block}
 use Rattle.table.proofs.grid.entry.Statement.{statement}
 use Rattle.table.proofs.grid.entry.Tie as tie
 

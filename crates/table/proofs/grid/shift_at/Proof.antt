@@ -2,10 +2,10 @@
 use Prim.Native.Nat.{ℕ, _+_}
 use mathlib.Core.Path.{sym, ap, _∙_}
 use borrow.Author.Needs.{needs}
+use Rattle.square.specs.Table.{tableAt}
+use Rattle.square.proofs.Places.{digit}
 use Rattle.table.specs.declared.grid.Part.{Part}
-use Rattle.table.specs.Table.{tableAt}
 use Rattle.table.specs.Plan.{shiftAt}
-use Rattle.table.proofs.Places.{digit}
 use Rattle.table.proofs.grid.shift_at.Statement.{statement}
 use Rattle.table.proofs.grid.shift_at.Tie as tie
 

@@ -6,7 +6,7 @@ use borrow.Author.Needs.{needs}
 use Rattle.refusal.specs.declared.Refusal.{Refusal}
 use Rattle.refusal.specs.Lowest.{lowest}
 use Rattle.refusal.proofs.Lowest.{lowest-accepted, lowest-refused}
-use Rattle.table.specs.Mask.{weight}
+use Rattle.square.specs.Mask.{weight}
 use Rattle.table.specs.Build.{tableRules, maskRules, buildRules, verdict}
 use Rattle.table.proofs.Accepted.{table-taken, accepts, refuses}
 use Rattle.table.proofs.judge.judge.Statement.{statement}

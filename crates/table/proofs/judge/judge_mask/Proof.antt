@@ -12,12 +12,13 @@ use Rattle.refusal.specs.declared.Refusal.{Refusal}
 use Rattle.refusal.specs.Lowest.{lowest}
 use Rattle.refusal.specs.Place.{somewhere}
 use Rattle.refusal.proofs.Lowest.{lowest-here, lowest-next}
+use Rattle.square.specs.Mask.{common, weight}
+use Rattle.square.proofs.Places.{place, square}
+use Rattle.square.proofs.Weights.{weight-common, weight-is, first-line}
 use Rattle.table.specs.declared.judge.Verdict.{Verdict}
 use Rattle.table.specs.declared.judge.Verdict.the-variants.{Accepted}
-use Rattle.table.specs.Mask.{common, weight}
 use Rattle.table.specs.Build.{maskRules, verdict}
-use Rattle.table.proofs.Places.{place, square, cols-small, bits-small, plan-small}
-use Rattle.table.proofs.Weights.{weight-common, weight-is, first-line}
+use Rattle.table.proofs.Columns.{cols-small, bits-small, plan-small}
 use Rattle.table.proofs.judge.judge_mask.Statement.{statement}
 use Rattle.table.proofs.judge.judge_mask.Tie as tie
 

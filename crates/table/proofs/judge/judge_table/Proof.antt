@@ -13,13 +13,13 @@ use Rattle.refusal.specs.Lowest.{lowest}
 use Rattle.refusal.proofs.Lowest.{lowest-here, lowest-next}
 use Rattle.exponent.specs.Limits.{outside}
 use Rattle.exponent.proofs.Rules.{inside}
+use Rattle.square.specs.Table.{tableAt}
+use Rattle.square.specs.Inner.{Square}
+use Rattle.square.proofs.Places.{square, cube, fourth}
+use Rattle.square.proofs.Repeats.{unsound-yes, unsound-no, first-quad}
 use Rattle.table.specs.declared.judge.Verdict.{Verdict}
 use Rattle.table.specs.declared.judge.Verdict.the-variants.{Refused}
-use Rattle.table.specs.Table.{tableAt}
 use Rattle.table.specs.Build.{tableRules, verdict, unsoundAt}
-use Rattle.table.specs.Write.{Square}
-use Rattle.table.proofs.Places.{square, cube, fourth}
-use Rattle.table.proofs.Repeats.{unsound-yes, unsound-no, first-quad}
 use Rattle.table.proofs.judge.judge_table.Statement.{statement}
 use Rattle.table.proofs.judge.judge_table.Tie as tie
 

@@ -7,7 +7,7 @@ use mir.Syntax.{w16}
 use mir.Val.{toZ, ofZ}
 use borrow.Author.Tests.{eq-eqb, ne-eqb}
 use borrow.Author.Needs.{needs}
-use Rattle.table.proofs.Places.{place, small-place}
+use Rattle.square.proofs.Places.{place, small-place}
 use Rattle.table.proofs.Rows.{cell-is, cell-written, cell-skipped}
 use Rattle.table.proofs.write.put_cell.Statement.{statement}
 use Rattle.table.proofs.write.put_cell.Tie as tie

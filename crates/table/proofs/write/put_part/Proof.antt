@@ -5,10 +5,11 @@ use mathlib.Core.List.{List}
 use native.Mathlib.Nat.{le-trans}
 use native.Mathlib.Omega.{arith}
 use lib.IntN.{ℤ}
-use Rattle.table.specs.Each.{each}
-use Rattle.table.specs.Write.{Wrote, line, lines}
-use Rattle.table.proofs.Places.{square}
-use Rattle.table.proofs.Runs.{wrote-none, wrote-length, room, turn, done}
+use Rattle.square.specs.Each.{each}
+use Rattle.square.specs.Inner.{Wrote}
+use Rattle.square.proofs.Places.{square}
+use Rattle.square.proofs.Runs.{wrote-none, wrote-length, room, turn, done}
+use Rattle.table.specs.Write.{line, lines}
 use Rattle.table.proofs.write.put_part.Statement.{statement}
 use Rattle.table.proofs.write.put_part.Tie as tie
 

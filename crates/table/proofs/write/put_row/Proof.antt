@@ -4,10 +4,12 @@ use Prim.Native.Nat.{ℕ, _*_, _-_, _≤_}
 use mathlib.Core.List.{List}
 use native.Mathlib.Omega.{arith}
 use lib.IntN.{ℤ}
-use Rattle.table.specs.Each.{each}
-use Rattle.table.specs.Write.{Wrote, column, cell, cells}
-use Rattle.table.proofs.Places.{square, cube, column-within}
-use Rattle.table.proofs.Runs.{wrote-none, wrote-length, room, turn, done}
+use Rattle.square.specs.Each.{each}
+use Rattle.square.specs.Inner.{Wrote}
+use Rattle.square.proofs.Places.{square, cube}
+use Rattle.square.proofs.Runs.{wrote-none, wrote-length, room, turn, done}
+use Rattle.table.specs.Write.{column, cell, cells}
+use Rattle.table.proofs.Columns.{column-within}
 use Rattle.table.proofs.write.put_row.Statement.{statement}
 use Rattle.table.proofs.write.put_row.Tie as tie
 

@@ -1,0 +1,90 @@
+/* Calls each of the nine functions from C. Says which line is wrong, or "c: 9 functions answer". */
+#include "qcldpc.h"
+
+#include <stdio.h>
+#include <string.h>
+
+static int wrong;
+
+#define EXPECT(holds) \
+    do { \
+        if (!(holds)) { \
+            printf("try.c:%d: %s does not hold\n", __LINE__, #holds); \
+            wrong = 1; \
+        } \
+    } while (0)
+
+/* The plan of one row with the shifts 0 and 1, at lift 2: four bits, two checks. */
+static const int16_t plan[2] = {0, 1};
+static uint64_t out[QCLDPC_OUT];
+
+static void plans(void)
+{
+    const int16_t bad[2] = {0, 2};
+    const int16_t zeros[4] = {0, 0, 0, 0};
+    EXPECT(qcldpc_check(plan, 2, 1, 2, 2, out, QCLDPC_OUT) == 0);
+    EXPECT(qcldpc_check(bad, 2, 1, 2, 2, out, QCLDPC_OUT) == 6 && out[0] == 1);
+    EXPECT(qcldpc_check(plan, 2, 1, 2, 4097, out, QCLDPC_OUT) == 3);
+    EXPECT(qcldpc_girth(plan, 2, 1, 2, 2, 12, out, QCLDPC_OUT) == 0 && out[0] == 0);
+    EXPECT(qcldpc_girth(zeros, 4, 2, 2, 1, 6, out, QCLDPC_OUT) == 0 && out[0] == 2);
+    EXPECT(out[1] + out[2] == 1 && out[9] + out[10] == 1);
+    EXPECT(qcldpc_girth(plan, 2, 1, 2, 2, 14, out, QCLDPC_OUT) == 14);
+}
+
+static void words(void)
+{
+    uint8_t odd[4] = {1, 0, 1, 1}, lost[4] = {1, 0, 0, 2}, clash[4] = {1, 2, 2, 0};
+    EXPECT(qcldpc_syndrome(plan, 2, 1, 2, 2, odd, 4, out, QCLDPC_OUT) == 0 && out[0] == 1 && out[1] == 1);
+    EXPECT(qcldpc_syndrome(plan, 2, 1, 2, 2, lost, 4, out, QCLDPC_OUT) == 19 && out[0] == 3);
+    EXPECT(qcldpc_fill(plan, 2, 1, 2, 2, lost, 4, out, QCLDPC_OUT) == 0 && out[0] == 1 && out[1] == 0);
+    EXPECT(memcmp(lost, "\1\0\0\1", 4) == 0);
+    EXPECT(qcldpc_fill(plan, 2, 1, 2, 2, clash, 4, out, QCLDPC_OUT) == 20);
+    EXPECT(memcmp(clash, "\1\2\2\0", 4) == 0);
+}
+
+static void tables(void)
+{
+    static int16_t table[16], built[48 * 64];
+    uint8_t mask[16];
+    memset(mask, 1, sizeof mask);
+    EXPECT(qcldpc_array_table(4, table, 16, out, QCLDPC_OUT) == 0 && table[15] == 9 % 4);
+    EXPECT(qcldpc_cyclic_table(4, table, 16, out, QCLDPC_OUT) == 0 && table[3] == 3);
+    EXPECT(qcldpc_build(4, 6, table, 16, mask, 16, built, 48 * 64, out, QCLDPC_OUT) == 10);
+    EXPECT(out[0] == 0 && out[1] == 2 && out[2] == 1 && out[3] == 3);
+    EXPECT(qcldpc_build(4, 7, table, 16, mask, 16, built, 48 * 64, out, QCLDPC_OUT) == 0);
+    EXPECT(out[0] == 48 && out[1] == 64);
+    EXPECT(built[5 * 64 + 23] == 1 && built[23 * 64 + 23] == 0 && built[39 * 64 + 23] == 3);
+}
+
+static void texts(void)
+{
+    static const char alist[] = "4 2\n1 2\n1 1 1 1\n2 2\n1\n2\n2\n1\n1 4\n2 3\n";
+    const size_t length = sizeof alist - 1;
+    uint8_t text[64];
+    memset(text, 'x', sizeof text);
+    EXPECT(qcldpc_alist_write(plan, 2, 1, 2, 2, NULL, 0, out, QCLDPC_OUT) == 17 && out[0] == length);
+    EXPECT(qcldpc_alist_write(plan, 2, 1, 2, 2, text, sizeof text, out, QCLDPC_OUT) == 0 && out[0] == length);
+    EXPECT(memcmp(text, alist, length) == 0 && text[length] == 'x');
+    EXPECT(qcldpc_alist_compare(plan, 2, 1, 2, 2, text, length, out, QCLDPC_OUT) == 0);
+    EXPECT(qcldpc_alist_compare(plan, 2, 1, 2, 2, text, length + 1, out, QCLDPC_OUT) == 21 && out[0] == length);
+}
+
+static void too_small_an_out(void)
+{
+    uint8_t word[4] = {1, 0, 0, 2};
+    out[0] = 5;
+    EXPECT(qcldpc_fill(plan, 2, 1, 2, 2, word, 4, out, QCLDPC_OUT - 1) == QCLDPC_NO_ROOM);
+    EXPECT(out[0] == 5 && word[3] == 2);
+}
+
+int main(void)
+{
+    plans();
+    words();
+    tables();
+    texts();
+    too_small_an_out();
+    if (!wrong)
+        puts("c: 9 functions answer");
+    return wrong;
+}

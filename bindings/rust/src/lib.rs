@@ -1,0 +1,215 @@
+//! Safe calls to the proved library of quasi-cyclic LDPC plans. Nothing is asked of a caller: whatever numbers and bytes
+//! are handed in, a call answers, or refuses with the lowest number that applies and leaves lent memory as it was.
+//!
+//! The plan of one row with the shifts 0 and 1, at lift 2, has four bits and two checks. A word that lost a bit gets it back:
+//!
+//! ```
+//! use qcldpc::{fill, girth, Fill, Girth, Plan, Refusal};
+//!
+//! let plan = Plan { entries: &[0, 1], rows: 1, cols: 2, lift: 2 };
+//! assert_eq!(girth(&plan, 12), Ok(Girth::Passed));
+//!
+//! let mut word = [1, 0, 0, 2];
+//! assert_eq!(fill(&plan, &mut word), Ok(Fill { filled: 1, left: 0 }));
+//! assert_eq!(word, [1, 0, 0, 1]);
+//!
+//! let mut dirty = [1, 0, 0, 7];
+//! assert_eq!(fill(&plan, &mut dirty), Err(Refusal { number: 18, values: vec![3] }));
+//! ```
+
+pub mod raw;
+
+use std::fmt;
+
+/// An exponent matrix: `rows × cols` entries, row by row. −1 is a zero block, `e` from 0 to `lift − 1` the identity with its
+/// rows shifted right by `e`.
+#[derive(Clone, Copy, Debug, PartialEq, Eq)]
+pub struct Plan<'a> {
+    pub entries: &'a [i16],
+    pub rows: usize,
+    pub cols: usize,
+    pub lift: usize,
+}
+
+impl Plan<'_> {
+    // A plan as the raw functions take it.
+    fn lent(&self) -> (*const i16, usize, u64, u64, u64) {
+        (self.entries.as_ptr(), self.entries.len(), self.rows as u64, self.cols as u64, self.lift as u64)
+    }
+}
+
+/// A plan that owns its entries.
+#[derive(Clone, Debug, PartialEq, Eq)]
+pub struct OwnedPlan {
+    pub entries: Vec<i16>,
+    pub rows: usize,
+    pub cols: usize,
+    pub lift: usize,
+}
+
+impl OwnedPlan {
+    /// The plan, lent to a call.
+    pub fn lent(&self) -> Plan<'_> {
+        Plan { entries: &self.entries, rows: self.rows, cols: self.cols, lift: self.lift }
+    }
+
+    /// How many bits a word of the plan has.
+    pub fn bits(&self) -> usize {
+        self.cols * self.lift
+    }
+}
+
+/// Why a call gives no result: a number from 1 to 21 (README.md, "Refusals") and its values.
+#[derive(Clone, Debug, PartialEq, Eq)]
+pub struct Refusal {
+    pub number: u64,
+    pub values: Vec<u64>,
+}
+
+impl fmt::Display for Refusal {
+    fn fmt(&self, f: &mut fmt::Formatter) -> fmt::Result {
+        write!(f, "refused {}", self.number)?;
+        self.values.iter().try_for_each(|value| write!(f, " {value}"))
+    }
+}
+
+impl std::error::Error for Refusal {}
+
+/// The answer of the girth test.
+#[derive(Clone, Debug, PartialEq, Eq)]
+pub enum Girth {
+    /// No simple cycle has fewer edges than the target.
+    Passed,
+    /// A simple cycle with fewer: check `k` joins bit `k`, bit `k` joins check `k + 1`, the last bit joins check 0.
+    Failed { checks: Vec<usize>, bits: Vec<usize> },
+}
+
+/// The answer of the syndrome check.
+#[derive(Clone, Copy, Debug, PartialEq, Eq)]
+pub enum Syndrome {
+    /// Every check is even: the word is a codeword.
+    Even,
+    /// The lowest odd check.
+    Odd(usize),
+}
+
+/// How many erasures the decoder filled, and how many it left: those in the largest stopping set.
+#[derive(Clone, Copy, Debug, PartialEq, Eq)]
+pub struct Fill {
+    pub filled: usize,
+    pub left: usize,
+}
+
+/// The rows and columns of a plan that was built.
+#[derive(Clone, Copy, Debug, PartialEq, Eq)]
+pub struct Built {
+    pub rows: usize,
+    pub cols: usize,
+}
+
+/// Whether a plan may be used. Refusals 1 to 6.
+pub fn check(plan: &Plan) -> Result<(), Refusal> {
+    let (p, n, rows, cols, lift) = plan.lent();
+    // SAFETY: in every call of this file each pointer goes with the length of its slice, and slices that are written are
+    // borrowed as such, so that they overlap no other. The functions require nothing else.
+    call(|out, len| unsafe { raw::qcldpc_check(p, n, rows, cols, lift, out, len) }, |_| ())
+}
+
+/// Whether no simple cycle has fewer edges than the target: 6, 8, 10 or 12. Refusals 1 to 6, 14.
+pub fn girth(plan: &Plan, target: usize) -> Result<Girth, Refusal> {
+    let (p, n, rows, cols, lift) = plan.lent();
+    call(
+        |out, len| unsafe { raw::qcldpc_girth(p, n, rows, cols, lift, target as u64, out, len) },
+        |out| match out[0] as usize {
+            0 => Girth::Passed,
+            n => Girth::Failed { checks: usizes(&out[1..1 + n]), bits: usizes(&out[9..9 + n]) },
+        },
+    )
+}
+
+/// The syndrome check of a word without erasures. Refusals 1 to 6, 16, 18, 19.
+pub fn syndrome(plan: &Plan, word: &[u8]) -> Result<Syndrome, Refusal> {
+    let (p, n, rows, cols, lift) = plan.lent();
+    call(
+        |out, len| unsafe { raw::qcldpc_syndrome(p, n, rows, cols, lift, word.as_ptr(), word.len(), out, len) },
+        |out| if out[0] == 0 { Syndrome::Even } else { Syndrome::Odd(out[1] as usize) },
+    )
+}
+
+/// Fills every erasure outside the largest stopping set, in place. Refusals 1 to 6, 16, 18, 20.
+pub fn fill(plan: &Plan, word: &mut [u8]) -> Result<Fill, Refusal> {
+    let (p, n, rows, cols, lift) = plan.lent();
+    call(
+        |out, len| unsafe { raw::qcldpc_fill(p, n, rows, cols, lift, word.as_mut_ptr(), word.len(), out, len) },
+        |out| Fill { filled: out[0] as usize, left: out[1] as usize },
+    )
+}
+
+/// The array table of an order from 4 to 7, in `order × order` places. Refusals 7, 8.
+pub fn array_table(order: usize, table: &mut [i16]) -> Result<(), Refusal> {
+    call(|out, len| unsafe { raw::qcldpc_array_table(order as u64, table.as_mut_ptr(), table.len(), out, len) }, |_| ())
+}
+
+/// The cyclic table of an order from 4 to 7, in `order × order` places. Refusals 7, 8.
+pub fn cyclic_table(order: usize, table: &mut [i16]) -> Result<(), Refusal> {
+    call(|out, len| unsafe { raw::qcldpc_cyclic_table(order as u64, table.as_mut_ptr(), table.len(), out, len) }, |_| ())
+}
+
+/// The plan of a table and a mask with `L` ones in each row and column, in exactly `3·L·order × order·L²` places.
+/// Refusals 3, 7 to 13, 15.
+///
+/// ```
+/// let mut table = [0; 16];
+/// qcldpc::cyclic_table(4, &mut table)?;
+/// let mut entries = vec![0; 48 * 64];
+/// let built = qcldpc::build(4, 7, &table, &[1; 16], &mut entries)?;
+/// assert_eq!((built.rows, built.cols), (48, 64));
+/// # Ok::<(), qcldpc::Refusal>(())
+/// ```
+pub fn build(order: usize, lift: usize, table: &[i16], mask: &[u8], plan: &mut [i16]) -> Result<Built, Refusal> {
+    let (t, m) = (table, mask);
+    call(
+        |out, len| unsafe {
+            let (to, places) = (plan.as_mut_ptr(), plan.len());
+            raw::qcldpc_build(order as u64, lift as u64, t.as_ptr(), t.len(), m.as_ptr(), m.len(), to, places, out, len)
+        },
+        |out| Built { rows: out[0] as usize, cols: out[1] as usize },
+    )
+}
+
+/// Writes the alist text of a plan and gives its length; bytes past it stay. Refusals 1 to 6, 17 with the length needed.
+pub fn alist_write(plan: &Plan, text: &mut [u8]) -> Result<usize, Refusal> {
+    let (p, n, rows, cols, lift) = plan.lent();
+    call(
+        |out, len| unsafe { raw::qcldpc_alist_write(p, n, rows, cols, lift, text.as_mut_ptr(), text.len(), out, len) },
+        |out| out[0] as usize,
+    )
+}
+
+/// Compares a text with the alist of a plan, token by token. Refusals 1 to 6, 21 with the place.
+pub fn alist_compare(plan: &Plan, text: &[u8]) -> Result<(), Refusal> {
+    let (p, n, rows, cols, lift) = plan.lent();
+    call(|out, len| unsafe { raw::qcldpc_alist_compare(p, n, rows, cols, lift, text.as_ptr(), text.len(), out, len) }, |_| ())
+}
+
+// Lends a function an `out` of 32 places, and reads its answer or its refusal from it.
+fn call<T>(function: impl FnOnce(*mut u64, usize) -> u64, answer: impl FnOnce(&[u64]) -> T) -> Result<T, Refusal> {
+    let mut out = [0; raw::OUT];
+    match function(out.as_mut_ptr(), out.len()) {
+        0 => Ok(answer(&out)),
+        number => Err(Refusal { number, values: out[..value_count(number)].to_vec() }),
+    }
+}
+
+// How many values a refusal has.
+fn value_count(number: u64) -> usize {
+    match number {
+        6 | 9 | 17 | 18 | 19 | 21 => 1,
+        10 => 4,
+        _ => 0,
+    }
+}
+
+fn usizes(numbers: &[u64]) -> Vec<usize> {
+    numbers.iter().map(|&n| n as usize).collect()
+}

@@ -1,0 +1,97 @@
+//! The nine functions as `include/qcldpc.h` declares them: a slice passes as a pointer, then its length.
+//! Nothing is asked of numbers and bytes; each pointer goes with the length of its memory, and memory that is written
+//! overlaps no other.
+
+/// The places that `out` needs.
+pub const OUT: usize = 32;
+
+/// What a function returns where `out` has fewer, having changed nothing.
+pub const NO_ROOM: u64 = u64::MAX;
+
+extern "C" {
+    pub fn qcldpc_check(
+        plan: *const i16,
+        plan_len: usize,
+        rows: u64,
+        cols: u64,
+        lift: u64,
+        out: *mut u64,
+        out_len: usize,
+    ) -> u64;
+
+    pub fn qcldpc_girth(
+        plan: *const i16,
+        plan_len: usize,
+        rows: u64,
+        cols: u64,
+        lift: u64,
+        target: u64,
+        out: *mut u64,
+        out_len: usize,
+    ) -> u64;
+
+    pub fn qcldpc_syndrome(
+        plan: *const i16,
+        plan_len: usize,
+        rows: u64,
+        cols: u64,
+        lift: u64,
+        word: *const u8,
+        word_len: usize,
+        out: *mut u64,
+        out_len: usize,
+    ) -> u64;
+
+    pub fn qcldpc_fill(
+        plan: *const i16,
+        plan_len: usize,
+        rows: u64,
+        cols: u64,
+        lift: u64,
+        word: *mut u8,
+        word_len: usize,
+        out: *mut u64,
+        out_len: usize,
+    ) -> u64;
+
+    pub fn qcldpc_array_table(order: u64, table: *mut i16, table_len: usize, out: *mut u64, out_len: usize) -> u64;
+
+    pub fn qcldpc_cyclic_table(order: u64, table: *mut i16, table_len: usize, out: *mut u64, out_len: usize) -> u64;
+
+    pub fn qcldpc_build(
+        order: u64,
+        lift: u64,
+        table: *const i16,
+        table_len: usize,
+        mask: *const u8,
+        mask_len: usize,
+        plan: *mut i16,
+        plan_len: usize,
+        out: *mut u64,
+        out_len: usize,
+    ) -> u64;
+
+    pub fn qcldpc_alist_write(
+        plan: *const i16,
+        plan_len: usize,
+        rows: u64,
+        cols: u64,
+        lift: u64,
+        text: *mut u8,
+        text_len: usize,
+        out: *mut u64,
+        out_len: usize,
+    ) -> u64;
+
+    pub fn qcldpc_alist_compare(
+        plan: *const i16,
+        plan_len: usize,
+        rows: u64,
+        cols: u64,
+        lift: u64,
+        text: *const u8,
+        text_len: usize,
+        out: *mut u64,
+        out_len: usize,
+    ) -> u64;
+}

@@ -1,0 +1,104 @@
+//! The girth test.
+use crate::door::{agree, left, lend_numbers, no_room, reply, with_room, Short, BEFORE};
+use crate::inputs::{any_plan, column_plan, limit_plans, OwnedPlan};
+use crate::random::Random;
+use crate::reference;
+use crate::reference::graph::{graph, Graph};
+use crate::seen::Seen;
+use crate::tables::{built_plans, cyclic_plan};
+use qcldpc::raw::qcldpc_girth;
+use qcldpc::{Girth, Plan};
+
+const TARGETS: [usize; 4] = [6, 8, 10, 12];
+
+// A plan and a target that are refused.
+fn compare_refused(plan: &Plan, target: usize, seen: &mut Seen) {
+    let wanted = reference::girth::refusal(plan, target).expect_err("this input is to be refused");
+    let input = &(Short(plan), target);
+    agree(input, raw_reply(plan, target), reply(&Err(wanted.clone())));
+    agree(input, &qcldpc::girth(plan, target), &Err(wanted.clone()));
+    seen.note(&Err::<(), _>(wanted));
+}
+
+// What the raw function returns and leaves in `out`.
+fn raw_reply(plan: &Plan, target: usize) -> (u64, Vec<u64>) {
+    let (rows, cols, lift) = (plan.rows as u64, plan.cols as u64, plan.lift as u64);
+    let mut lent = lend_numbers(plan.entries);
+    let mut call =
+        |out, places| unsafe { qcldpc_girth(lent.pointer(), lent.len(), rows, cols, lift, target as u64, out, places) };
+    no_room(&mut call);
+    let got = with_room(&mut call);
+    left(&Short(plan), &lent, plan.entries);
+    got
+}
+
+// The shown cycle in `out`: n, then five places of checks and from place 9 five of bits; the other places keep what they held.
+fn out_of(checks: &[usize], bits: &[usize]) -> Vec<u64> {
+    let mut out = reply(&Ok(vec![checks.len()])).1;
+    for k in 0..5 {
+        out[1 + k] = checks.get(k).map_or(0, |&c| c as u64);
+        out[9 + k] = bits.get(k).map_or(0, |&b| b as u64);
+    }
+    assert_eq!(out[6..9], [BEFORE; 3]);
+    out
+}
+
+// A good plan at a target, with its graph and girth.
+fn compare_good(plan: &Plan, graph: &Graph, girth: usize, target: usize, seen: &mut Seen) {
+    let input = &(Short(plan), target);
+    let answer = qcldpc::girth(plan, target);
+    seen.note(&answer);
+    let (checks, bits) = match answer.unwrap_or_else(|refusal| panic!("{refusal} for {input:?}")) {
+        Girth::Passed => (vec![], vec![]),
+        Girth::Failed { checks, bits } => (checks, bits),
+    };
+    agree(input, checks.is_empty(), girth >= target);
+    if !checks.is_empty() {
+        agree(input, reference::girth::fault(graph, target, &checks, &bits), None);
+    }
+    agree(input, raw_reply(plan, target), (0, out_of(&checks, &bits)));
+}
+
+/// A plan at every target, allowed or not. Gives its girth, up to 12, where it is not refused.
+pub fn compare(plan: &Plan, seen: &mut Seen) -> Option<usize> {
+    if reference::plan::check(plan).is_err() {
+        TARGETS.iter().for_each(|&target| compare_refused(plan, target, seen));
+        compare_refused(plan, 7, seen);
+        return None;
+    }
+    for target in [0, 2, 4, 5, 7, 11, 13, 14, 6 + (1 << 32), usize::MAX] {
+        compare_refused(plan, target, seen);
+    }
+    let graph = graph(plan);
+    let girth = reference::girth::girth(&graph);
+    TARGETS.iter().for_each(|&target| compare_good(plan, &graph, girth, target, seen));
+    Some(girth)
+}
+
+// Plans of which each girth from 4 to 12 and more is likely.
+fn likely_plan(random: &Random) -> OwnedPlan {
+    let lift = random.between(2, 60);
+    let (rows, cols) = random.choice(&[(2, 2), (2, 3), (2, 5), (3, 3), (3, 4), (4, 6), (8, 8), (12, 20)]);
+    let weight = random.choice(&[2, 2, 3]).min(rows);
+    column_plan(random, rows, cols, lift, weight)
+}
+
+pub fn compare_all() -> Seen {
+    let (random, mut seen) = (Random::new(2), Seen::default());
+    for plan in limit_plans(&random) {
+        compare(&plan.lent(), &mut seen);
+    }
+    for plan in built_plans(&random) {
+        assert_eq!(compare(&plan.lent(), &mut seen), Some(12), "every table plan passes at 12");
+    }
+    compare(&cyclic_plan(4, 1024).lent(), &mut seen);
+    let mut met = [0; 13];
+    for k in 0..6000 {
+        let plan = if k < 3000 { any_plan(&random, 8) } else { likely_plan(&random) };
+        if let Some(girth) = compare(&plan.lent(), &mut seen) {
+            met[girth] += 1;
+        }
+    }
+    assert!([4, 6, 8, 10, 12].iter().all(|&g| met[g] > 50), "each girth is met: {met:?}");
+    seen
+}

@@ -1,0 +1,92 @@
+//! Plans of many shapes, and what can be wrong with one.
+use crate::random::Random;
+pub use qcldpc::OwnedPlan;
+
+/// A plan of a shape in which each block is filled with the chance `density` in 8.
+pub fn plan_of(random: &Random, rows: usize, cols: usize, lift: usize, density: usize) -> OwnedPlan {
+    let limit = random.choice(&[1, 2, lift, lift, lift]).min(lift);
+    let entry = |_| match random.below(8) < density {
+        true => random.choice(&[random.below(limit), random.below(lift), lift - 1, limit - 1]) as i16,
+        false => -1,
+    };
+    OwnedPlan { entries: (0..rows * cols).map(entry).collect(), rows, cols, lift }
+}
+
+/// A small plan of any density, from all blocks empty to all filled.
+pub fn small_plan(random: &Random) -> OwnedPlan {
+    let (rows, cols) = (random.between(1, 6), random.between(1, 8));
+    let lift = random.choice(&[1, 2, 3, random.between(1, 8), random.between(1, 40)]);
+    let density = random.between(0, 8);
+    plan_of(random, rows, cols, lift, density)
+}
+
+/// A plan with `weight` filled blocks in each column.
+pub fn column_plan(random: &Random, rows: usize, cols: usize, lift: usize, weight: usize) -> OwnedPlan {
+    let mut entries = vec![-1; rows * cols];
+    for j in 0..cols {
+        for i in random.distinct(weight, rows) {
+            entries[i * cols + j] = random.below(lift) as i16;
+        }
+    }
+    OwnedPlan { entries, rows, cols, lift }
+}
+
+/// Plans at the limits of rows, columns, lift and bits.
+pub fn limit_plans(random: &Random) -> Vec<OwnedPlan> {
+    vec![
+        column_plan(random, 192, 512, 128, 3),
+        column_plan(random, 192, 512, 1, 3),
+        column_plan(random, 192, 16, 4096, 2),
+        column_plan(random, 3, 16, 4096, 3),
+        column_plan(random, 192, 1, 4096, 4),
+        plan_of(random, 1, 16, 4096, 8),
+        plan_of(random, 1, 512, 128, 4),
+        plan_of(random, 192, 1, 1, 8),
+        plan_of(random, 192, 512, 1, 8),
+        plan_of(random, 192, 512, 2, 0),
+    ]
+}
+
+// A number that is not from 1 to `limit`, some of them right in their low bits.
+fn outside(random: &Random, limit: usize, right: usize) -> usize {
+    let wrapped = right.wrapping_add(random.choice(&[1 << 16, 1 << 32, 1 << 63]));
+    random.choice(&[0, limit + 1, limit + 2, 1 << 16, wrapped, usize::MAX])
+}
+
+/// Makes one or more of refusals 1 to 6 apply to a good plan.
+pub fn damage_plan(random: &Random, plan: &mut OwnedPlan) {
+    for _ in 0..random.between(1, 3) {
+        match random.between(1, 6) {
+            1 => plan.rows = outside(random, 192, plan.rows),
+            2 => plan.cols = outside(random, 512, plan.cols),
+            3 => plan.lift = outside(random, 4096, plan.lift),
+            4 => {
+                let (cols, lift) = random.choice(&[(512, 129), (17, 4096), (16, 4097), (257, 256), (513, 128)]);
+                (plan.cols, plan.lift) = (cols, lift);
+                if random.once_in(2) {
+                    plan.entries = vec![0; plan.rows.min(192) * cols];
+                }
+            }
+            5 => {
+                let len = plan.entries.len();
+                plan.entries.resize(random.choice(&[0, len / 2, len.saturating_sub(1), len + 1]), 0);
+            }
+            _ => {
+                for _ in 0..random.between(1, 3).min(plan.entries.len()) {
+                    let place = random.below(plan.entries.len());
+                    let over = plan.lift.min(32767) as i16;
+                    plan.entries[place] = random.choice(&[-2, over, over.saturating_add(1), i16::MAX, i16::MIN, -256]);
+                }
+            }
+        }
+    }
+}
+
+/// A small plan, damaged once in some times.
+pub fn any_plan(random: &Random, damaged_once_in: usize) -> OwnedPlan {
+    let mut plan = small_plan(random);
+    if random.once_in(damaged_once_in) {
+        damage_plan(random, &mut plan);
+    }
+    plan
+}

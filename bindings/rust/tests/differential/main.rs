@@ -1,0 +1,71 @@
+//! The library beside an independent implementation, on a fixed sequence of many inputs.
+mod alist;
+mod door;
+mod fill;
+mod girth;
+mod inputs;
+mod lent;
+mod plans;
+mod promise;
+mod random;
+mod reference;
+mod seen;
+mod tables;
+mod words;
+
+use seen::Seen;
+use std::sync::LazyLock;
+
+static PLANS: LazyLock<Seen> = LazyLock::new(plans::compare_all);
+static GIRTH: LazyLock<Seen> = LazyLock::new(girth::compare_all);
+static TABLES: LazyLock<Seen> = LazyLock::new(tables::compare_all);
+static WORDS: LazyLock<Seen> = LazyLock::new(words::compare_all);
+static FILL: LazyLock<Seen> = LazyLock::new(fill::compare_all);
+static ALIST: LazyLock<Seen> = LazyLock::new(alist::compare_all);
+static PROMISE: LazyLock<Seen> = LazyLock::new(promise::compare_all);
+
+#[test]
+fn plan_check() {
+    println!("plan check: {}", *PLANS);
+}
+
+#[test]
+fn girth_test() {
+    println!("girth test: {}", *GIRTH);
+}
+
+#[test]
+fn table_plans() {
+    println!("tables: {}", *TABLES);
+}
+
+#[test]
+fn syndrome_check() {
+    println!("syndrome check: {}", *WORDS);
+}
+
+#[test]
+fn decoder() {
+    println!("decoder: {}", *FILL);
+}
+
+#[test]
+fn alist_text() {
+    println!("alist: {}", *ALIST);
+}
+
+#[test]
+fn promise_3() {
+    println!("promise 3: {}", *PROMISE);
+    assert_eq!((1..22).map(|n| PROMISE.refusals(n)).sum::<usize>(), 0);
+}
+
+// The subjects above are run once each, whichever test asks first.
+#[test]
+fn every_refusal_was_met() {
+    let subjects = [&PLANS, &GIRTH, &TABLES, &WORDS, &FILL, &ALIST];
+    for number in 1..=21 {
+        let times: usize = subjects.iter().map(|seen| seen.refusals(number)).sum();
+        assert!(times > 0, "no input met refusal {number}");
+    }
+}

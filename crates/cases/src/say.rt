@@ -1,0 +1,52 @@
+// What the test program writes: texts, numbers, refusals, verdicts.
+use girth::Outcome;
+use libc::STDOUT_FILENO;
+use refusal::Refusal;
+use refusal::numbers;
+ghost use Prim.Native.Nat.{_≤_};
+
+pub fn say(text: &[u8]) {
+    io::write_all(STDOUT_FILENO, text);
+}
+
+pub fn number(label: &[u8], n: usize) {
+    say(label);
+    io::print_decimal(STDOUT_FILENO, n as u64);
+}
+
+// A refusal: its number and its values.
+pub fn refused(r: Refusal) {
+    say(b"refused ");
+    io::print_decimal(STDOUT_FILENO, numbers::number_of(r));
+    let values = numbers::values_of(r);
+    let count = values.count;
+    let places = values.places;
+    if 0 < count {
+        number(b" with ", places[0]);
+    }
+    if 3 < count {
+        number(b" ", places[1]);
+        number(b" ", places[2]);
+        number(b" ", places[3]);
+    }
+}
+
+// The verdict at a target.
+pub fn judged(plan: &[i16], rows: usize, cols: usize, lift: usize, target: usize) {
+    let t = girth::test(plan, rows, cols, lift, target);
+    let outcome = t.outcome;
+    match outcome {
+        Outcome::Passed => number(b"passes ", target),
+        Outcome::Failed => {
+            number(b"fails ", target);
+            number(b" with a cycle of ", 2 * short(t.n));
+        }
+        Outcome::Refused(r) => refused(r),
+    }
+}
+
+fn short(n: usize) -> usize
+    ensures { λ r. ⌜ r ≤ 1000 ⌝ }
+{
+    if n < 1000 { n } else { 1000 }
+}

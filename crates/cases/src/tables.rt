@@ -1,0 +1,79 @@
+// The table plans of document 01's bench cases and of source 004's examples, each judged at 12.
+use crate::say::judged;
+use crate::say::number;
+use crate::say::refused;
+use crate::say::say;
+use table::Built;
+
+fn supply(cyclic: bool, order: usize, square: &mut [i16]) {
+    if cyclic {
+        table::cyclic(order, square);
+    } else {
+        table::array(order, square);
+    }
+}
+
+// Builds the plan of a supplied table in a lent place, and judges it at 12.
+fn build(
+    cyclic: bool,
+    order: usize,
+    lift: usize,
+    square: &mut [i16],
+    mask: &[u8],
+    plan: &mut [i16],
+) {
+    if cyclic {
+        number(b"cyclic ", order);
+    } else {
+        number(b"array ", order);
+    }
+    number(b", P = ", lift);
+    say(b": ");
+    supply(cyclic, order, square);
+    let built = table::build(order, lift, square, mask, plan);
+    match built {
+        Built::Refused(r) => refused(r),
+        Built::Built { rows, cols } => {
+            number(b"", rows);
+            number(b" x ", cols);
+            say(b", ");
+            judged(plan, rows, cols, lift, 12);
+        }
+    }
+    say(b"\n");
+}
+
+// Order 6, and 004's example 3.
+pub fn order_six() {
+    let mut square = [0i16; 36];
+    let mut plan = [0i16; 23328];
+    let mask = [1u8; 36];
+    build(true, 6, 18, &mut square, &mask, &mut plan);
+    build(true, 6, 19, &mut square, &mask, &mut plan);
+    build(true, 6, 25, &mut square, &mask, &mut plan);
+}
+
+// Order 7, and 004's example 1.
+pub fn order_seven() {
+    let mut square = [0i16; 49];
+    let mut plan = [0i16; 50421];
+    let mask = [1u8; 49];
+    build(false, 7, 7, &mut square, &mask, &mut plan);
+    build(false, 7, 10, &mut square, &mask, &mut plan);
+    build(false, 7, 11, &mut square, &mask, &mut plan);
+}
+
+// The mask with 0 on the diagonal: 004's example 2.
+pub fn diagonal() {
+    let mut square = [0i16; 49];
+    let mut plan = [0i16; 31752];
+    let mut mask = [1u8; 49];
+    mask[0] = 0;
+    mask[8] = 0;
+    mask[16] = 0;
+    mask[24] = 0;
+    mask[32] = 0;
+    mask[40] = 0;
+    mask[48] = 0;
+    build(true, 7, 7, &mut square, &mask, &mut plan);
+}

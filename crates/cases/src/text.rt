@@ -1,0 +1,33 @@
+// alist text: the plan of the bench cases, and a call for others.
+use crate::say::refused;
+use crate::say::say;
+use alist::Written;
+
+// Bytes enough for the longest text here.
+const ROOM: usize = 256;
+
+// Writes the first bytes of a text.
+fn say_first(text: [u8; ROOM], length: usize) {
+    if length <= ROOM {
+        say(&text[0..length]);
+    }
+}
+
+// Writes the alist of a plan.
+pub fn alist_of(plan: &[i16], rows: usize, cols: usize, lift: usize) {
+    let mut text = [0u8; ROOM];
+    let written = alist::write(plan, rows, cols, lift, &mut text);
+    match written {
+        Written::Written(length) => say_first(text, length),
+        Written::Refused(r) => {
+            refused(r);
+            say(b"\n");
+        }
+    }
+}
+
+// The one-row plan 0 1 of the bench cases.
+pub fn one_row() {
+    say(b"alist of 0 1, P = 2:\n");
+    alist_of(&[0, 1], 1, 2, 2);
+}

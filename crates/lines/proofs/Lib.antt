@@ -1,0 +1,4 @@
+pub mod Computed
+pub mod Lanes
+pub mod Rest
+pub mod Weights

@@ -1,0 +1,232 @@
+-- The numbers of a line from one on, and the lines in their order. Assumes nothing.
+use Prim.Native.Nat.{ℕ, zero, suc, _+_, _-_, _*_, _/_, _%_, _≤_, _<_}
+use mathlib.Core.Path.{_≡_, refl, sym, ap, ap₂, _∙_}
+use mathlib.Core.List.{List, [], _∷_, _++_, map}
+use native.Mathlib.Omega.{arith}
+use native.Mathlib.Nat.{sub-zero, mod-lt, mod-eq-of-lt, div-add-mod'}
+use native.Mathlib.Numerals.{add-one}
+use lib.IntN.{ℤ}
+use lib.ListN.{length, getD, drop, drop-of-length-le, length-append, length-map, List·getD-append, List·getD-map}
+use lib.Seq.{drop-cons, getD-append-add}
+use Rattle.graph.specs.Count.{range, below}
+use Rattle.graph.specs.Graph.{Bipartite}
+use Rattle.graph.proofs.Count.{length-range, getD-map-below, length-map-below}
+use Rattle.exponent.specs.declared.index.Shape.{Shape}
+use Rattle.exponent.proofs.Numbers.{block-of}
+use Rattle.lines.specs.declared.sides.Side.{Side}
+use Rattle.lines.specs.declared.sides.Side.the-variants.{Bits, Checks}
+use Rattle.lines.specs.declared.Layout.{Layout}
+use Rattle.lines.specs.declared.Line.{Line}
+use Rattle.lines.specs.declared.Line.the-variants.{Sizes, Greatest, Degrees, Node}
+use Rattle.lines.specs.declared.generate.Number.{Number}
+use Rattle.lines.specs.Alist.{nodes, neighbours, degrees, greatest, fill, lists, linesOf}
+use Rattle.lines.specs.Sides.{graph, nodeCount, weightOf, restOf}
+use Rattle.lines.specs.Lines.{lineOf, order, sideAt, mostOf, Measured, widthOf, lineRest, Carried, Fills}
+use Rattle.lines.proofs.Lanes.{nodes-of, neighbours-rest, degree-weight}
+
+pub first-side : (k : ℕ) → k ≡ 0 → Bits ≡ sideAt k
+first-side zero e = refl
+first-side (suc k) e = absurd (omega arith)
+
+pub other-side : (k : ℕ) → (k ≡ 0 → ⊥) → Checks ≡ sideAt k
+other-side zero h = absurd (h refl)
+other-side (suc k) h = refl
+
+-- The next number of a line that is filled up with 0.
+
+pub fills-more : (rest : ℕ → List ℕ) (from y n k : ℕ) → n ≡ suc y → rest from ≡ y ∷ rest k → Fills rest from (record { value = n; next = k })
+unfolding fill
+fills-more rest from y n k e p = record { fills = λ w. rw (p, e) }
+
+pub fills-zero : (rest : ℕ → List ℕ) (from k : ℕ) → rest from ≡ [] → rest k ≡ [] → Fills rest from (record { value = 0; next = k })
+unfolding fill
+fills-zero rest from k p q = record { fills = λ w. rw (p, q) }
+
+-- Lists from their k-th element on.
+
+pair-next : (f : Side → ℕ) (k : ℕ) → k < 2 → drop k (f Bits ∷ f Checks ∷ []) ≡ f (sideAt k) ∷ drop (k + 1) (f Bits ∷ f Checks ∷ [])
+pair-next f zero h = refl
+pair-next f (suc zero) h = refl
+pair-next f (suc (suc k)) h = absurd (omega arith)
+
+length-degrees : (G : Bipartite) (side : Side) → length (degrees G side) ≡ nodes G side
+unfolding degrees
+length-degrees G side = length-map-below (λ x. length (neighbours G side x)) (nodes G side)
+
+degrees-next : (G : Bipartite) (side : Side) (k : ℕ) → k < nodes G side → drop k (degrees G side) ≡ length (neighbours G side k) ∷ drop (k + 1) (degrees G side)
+unfolding degrees
+degrees-next G side k h =
+    drop-cons (degrees G side) k 0 (omega (arith, length-degrees G side))
+    ∙ ap (λ (n : ℕ). n ∷ drop (suc k) (degrees G side)) (getD-map-below (λ x. length (neighbours G side x)) (nodes G side) k h)
+    ∙ ap (λ (n : ℕ). length (neighbours G side k) ∷ drop n (degrees G side)) (sym (add-one k))
+
+fill-next : (rest : ℕ → List ℕ) (from : ℕ) (r : Number) (k w : ℕ) → k < w → Fills rest from r
+    → fill (w - k) (map suc (rest from)) ≡ r .value ∷ fill (w - (k + 1)) (map suc (rest (r .next)))
+fill-next rest from r k w h p =
+    let e : w - k ≡ suc (w - (k + 1)) = omega arith in
+    ap (λ (m : ℕ). fill m (map suc (rest from))) e ∙ p .fills (w - (k + 1))
+
+-- A line of a measured plan.
+
+module _ (plan : List ℤ) (l : Layout) (down along : List ℕ) (m : Measured plan l down along) where
+  abbrev G : Bipartite
+  G = graph plan (l .shape)
+
+  most-is : (side : Side) → mostOf l side ≡ greatest (degrees (graph plan (l .shape)) side)
+  most-is Bits = m .most-bits
+  most-is Checks = m .most-checks
+
+  pub line-start : (line : Line) → lineRest plan l line 0 0 ≡ lineOf (graph plan (l .shape)) line
+  unfolding lineRest lineOf
+  line-start Sizes = refl
+  line-start Greatest = refl
+  line-start (Degrees side) = refl
+  line-start (Node side x) = rw (sub-zero (mostOf l side), most-is side, neighbours-rest plan (l .shape) (m .ready .well) side x)
+
+  pub line-end : (line : Line) (k from : ℕ) → widthOf l line ≤ k → lineRest plan l line k from ≡ []
+  unfolding lineRest lineOf fill
+  line-end Sizes k from h = drop-of-length-le (lineOf G Sizes) h
+  line-end Greatest k from h = drop-of-length-le (lineOf G Greatest) h
+  line-end (Degrees side) k from h = drop-of-length-le (degrees G side) {i = k} (omega (arith, length-degrees G side, nodes-of plan (l .shape) side))
+  line-end (Node side x) k from h = let e : mostOf l side - k ≡ 0 = omega arith in rw e
+
+  -- the line goes on with v and, after it, from block `next` on
+  module _ (line : Line) (k from : ℕ) (h : k < widthOf l line) where
+    abbrev pub GoesOn : ℕ → ℕ → Type 0
+    GoesOn v next = lineRest plan l line k from ≡ v ∷ lineRest plan l line (k + 1) next
+
+    pub sizes-next : line ≡ Sizes → (v : ℕ) → v ≡ nodeCount (l .shape) (sideAt k) → GoesOn v 0
+    unfolding lineRest lineOf
+    sizes-next e v q =
+        rw (e, q ∙ sym (nodes-of plan (l .shape) (sideAt k))) (pair-next (nodes (graph plan (l .shape))) k (rw e at h))
+
+    pub greatest-next : line ≡ Greatest → (v : ℕ) → v ≡ mostOf l (sideAt k) → GoesOn v 0
+    unfolding lineRest lineOf
+    greatest-next e v q = rw (e, q ∙ most-is (sideAt k)) (pair-next (λ side. greatest (degrees (graph plan (l .shape)) side)) k (rw e at h))
+
+    pub degree-next : (side : Side) → line ≡ Degrees side → (v : ℕ) → v ≡ weightOf plan (l .shape) side (k / l .shape .lift) → (next : ℕ) → GoesOn v next
+    unfolding lineRest lineOf
+    degree-next side e v q next =
+        rw (e, q ∙ sym (degree-weight plan (l .shape) (m .ready .well) side k))
+        (degrees-next G side k (let i : k < nodeCount (l .shape) side = rw e at h in omega (arith, nodes-of plan (l .shape) side)))
+
+    pub node-next : (side : Side) (x : ℕ) → line ≡ Node side x → (r : Number) → Fills (restOf plan (l .shape) side x) from r → GoesOn (r .value) (r .next)
+    unfolding lineRest
+    node-next side x e r p = rw e (fill-next (restOf plan (l .shape) side x) from r k (mostOf l side) (rw e at h) p)
+
+-- WHAT A LINE CARRIES from number to number.
+
+pub carried-start : (plan : List ℤ) (l : Layout) (line : Line) → 0 < l .shape .lift → Carried plan l line 0 0
+carried-start plan l Sizes h = tt
+carried-start plan l Greatest h = tt
+carried-start plan l (Degrees side) h = λ q. absurd (omega (arith, mod-eq-of-lt h))
+carried-start plan l (Node side x) h = tt
+
+pub carried-last : (plan : List ℤ) (l : Layout) (line : Line) (k from : ℕ) (side : Side) → line ≡ Degrees side → Carried plan l line k from → Carried plan l (Degrees side) k from
+carried-last plan l line k from side e h = rw e at h
+
+-- the next node is in the same lane, unless a lane begins with it
+same-lane : (lift k : ℕ) → 0 < lift → 0 < (k + 1) % lift → k / lift ≡ (k + 1) / lift
+same-lane lift k h q =
+    let low = mod-lt (k + 1) h in
+    let whole = div-add-mod' (k + 1) lift in
+    let e : k ≡ (k + 1) / lift * lift + ((k + 1) % lift - 1) = omega arith in
+    ap (λ (n : ℕ). n / lift) e ∙ block-of lift h ((k + 1) / lift) ((k + 1) % lift - 1) (omega arith)
+
+pub carried-degree : (plan : List ℤ) (l : Layout) (line : Line) (k v : ℕ) (side : Side) → 0 < l .shape .lift → line ≡ Degrees side
+    → v ≡ weightOf plan (l .shape) side (k / l .shape .lift) → Carried plan l line (k + 1) v
+carried-degree plan l line k v side h e q = rw e (λ j. q ∙ ap (weightOf plan (l .shape) side) (same-lane (l .shape .lift) k h j))
+
+-- THE ORDER. Line i of it, and all lines.
+
+getD-any {ℓ} : {A : Type ℓ} (l : List A) (i : ℕ) (a b : A) → i < length l → getD l i a ≡ getD l i b
+getD-any [] i a b h = absurd (omega arith)
+getD-any (x ∷ l) zero a b h = refl
+getD-any (x ∷ l) (suc i) a b h = getD-any l i a b (omega arith)
+
+getD-range : (s n i : ℕ) → i < n → getD (range s n) i 0 ≡ s + i
+unfolding range
+getD-range s zero i h = absurd (omega arith)
+getD-range s (suc n) zero h = omega arith
+getD-range s (suc n) (suc i) h = let e = getD-range (suc s) n i (omega arith) in omega arith
+
+module _ (s : Shape) where
+  abbrev nodesOf : Side → List Line
+  nodesOf side = map (λ x. Node side x) (below (nodeCount s side))
+
+  length-nodes : (side : Side) → length (nodesOf side) ≡ nodeCount s side
+  length-nodes side = length-map (below (nodeCount s side)) (λ x. Node side x) ∙ length-range 0 (nodeCount s side)
+
+  node-at : (side : Side) (i : ℕ) → i < nodeCount s side → getD (nodesOf side) i Sizes ≡ Node side i
+  node-at side i h =
+      getD-any (nodesOf side) i Sizes (Node side 0) (omega (arith, length-nodes side))
+      ∙ List·getD-map (λ x. Node side x) (below (nodeCount s side)) i 0
+      ∙ ap (λ x. Node side x) (getD-range 0 (nodeCount s side) i h ∙ omega arith)
+
+  pub length-order : length (order s) ≡ 4 + (nodeCount s Bits + nodeCount s Checks)
+  unfolding order
+  length-order = omega (arith, length-append (nodesOf Bits) (nodesOf Checks), length-nodes Bits, length-nodes Checks)
+
+  -- the first four, by number
+  pub order-first : (i k : ℕ) (line : Line) → i ≡ k → line ≡ getD (order s) k Sizes → line ≡ getD (order s) i Sizes
+  order-first i k line e h = rw e h
+
+  past-four : (i : ℕ) → 4 ≤ i → getD (order s) i Sizes ≡ getD (nodesOf Bits ++ nodesOf Checks) (i - 4) Sizes
+  unfolding order
+  past-four i h = let e : i ≡ suc (suc (suc (suc (i - 4)))) = omega arith in ap (λ (k : ℕ). getD (order s) k Sizes) e
+
+  pub order-bit : (i : ℕ) → 4 ≤ i → i < 4 + nodeCount s Bits → Node Bits (i - 4) ≡ getD (order s) i Sizes
+  order-bit i h g =
+      sym
+      (past-four i h
+      ∙ List·getD-append (nodesOf Bits) (nodesOf Checks) Sizes (i - 4) (omega (arith, length-nodes Bits))
+      ∙ node-at Bits (i - 4) (omega arith))
+
+  pub order-check : (i : ℕ) → 4 + nodeCount s Bits ≤ i → i < 4 + (nodeCount s Bits + nodeCount s Checks) → Node Checks (i - 4 - nodeCount s Bits) ≡ getD (order s) i Sizes
+  order-check i h g =
+      let e : i - 4 ≡ length (nodesOf Bits) + (i - 4 - nodeCount s Bits) = omega (arith, length-nodes Bits) in
+      sym
+      (past-four i (omega arith)
+      ∙ ap (λ (k : ℕ). getD (nodesOf Bits ++ nodesOf Checks) k Sizes) e
+      ∙ getD-append-add (nodesOf Bits) (nodesOf Checks) (i - 4 - nodeCount s Bits) Sizes
+      ∙ node-at Checks (i - 4 - nodeCount s Bits) (omega arith))
+
+map-append : {A B : Type 0} (f : A → B) (xs ys : List A) → map f (xs ++ ys) ≡ map f xs ++ map f ys
+map-append f [] ys = refl
+map-append f (x ∷ xs) ys = ap (λ l. f x ∷ l) (map-append f xs ys)
+
+map-map : {A B C : Type 0} (f : B → C) (g : A → B) (xs : List A) → map f (map g xs) ≡ map (λ x. f (g x)) xs
+map-map f g [] = refl
+map-map f g (x ∷ xs) = ap (λ l. f (g x) ∷ l) (map-map f g xs)
+
+-- the lines of the graph are those of the order
+pub lines-are : (plan : List ℤ) (s : Shape) → map (lineOf (graph plan s)) (order s) ≡ linesOf (graph plan s)
+unfolding order lineOf linesOf lists
+lines-are plan s =
+    ap (λ (ls : List (List ℕ)). lineOf (graph plan s) Sizes ∷ lineOf (graph plan s) Greatest ∷ degrees (graph plan s) Bits ∷ degrees (graph plan s) Checks ∷ ls)
+    (map-append (lineOf (graph plan s)) (nodesOf s Bits) (nodesOf s Checks)
+    ∙ ap₂ (λ (a b : List (List ℕ)). a ++ b) (each Bits) (each Checks))
+  where
+    each : (side : Side) → map (lineOf (graph plan s)) (nodesOf s side) ≡ lists (graph plan s) side
+    each side =
+        map-map (lineOf (graph plan s)) (λ x. Node side x) (below (nodeCount s side))
+        ∙ ap (λ (n : ℕ). map (λ x. lineOf (graph plan s) (Node side x)) (below n)) (sym (nodes-of plan s side))
+
+-- The lines from line i on, as text and as numbers: `f` takes a line, `join` puts it before the others.
+
+module _ (plan : List ℤ) (s : Shape) where
+  pub linesFrom : ℕ → List (List ℕ)
+  linesFrom i = map (lineOf (graph plan s)) (drop i (order s))
+
+  pub lines-start : linesFrom 0 ≡ linesOf (graph plan s)
+  unfolding linesFrom
+  lines-start = lines-are plan s
+
+  pub lines-next : (i : ℕ) (line : Line) → i < 4 + (nodeCount s Bits + nodeCount s Checks) → line ≡ getD (order s) i Sizes
+      → linesFrom i ≡ lineOf (graph plan s) line ∷ linesFrom (i + 1)
+  unfolding linesFrom
+  lines-next i line h e = rw (add-one i, e) (ap (map (lineOf (graph plan s))) (drop-cons (order s) i Sizes (omega (arith, length-order s))))
+
+  pub lines-end : (i : ℕ) → 4 + (nodeCount s Bits + nodeCount s Checks) ≤ i → linesFrom i ≡ []
+  unfolding linesFrom
+  lines-end i h = ap (map (lineOf (graph plan s))) (drop-of-length-le (order s) {i = i} (omega (arith, length-order s)))

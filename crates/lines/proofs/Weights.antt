@@ -1,0 +1,122 @@
+-- The greatest degree is greatest, and the degrees are the weights of rows and columns. Assumes nothing.
+use Prim.Native.Nat.{ℕ, zero, suc, _+_, _-_, _*_, _/_, _≤_, _<_, max, zero-le}
+use mathlib.Core.Path.{_≡_, refl, sym, ap, ap₂, _∙_}
+use mathlib.Core.Logic.{inl, inr}
+use mathlib.Core.List.{List, [], _∷_, _++_, map}
+use native.Mathlib.Omega.{arith}
+use native.Mathlib.Nat.{sub-zero}
+use lib.IntN.{ℤ}
+use lib.ListN.{length, length-map}
+use Rattle.graph.specs.Count.{range, below}
+use Rattle.graph.specs.Graph.{Bipartite}
+use Rattle.graph.proofs.Lists.{Mem, mem-image, each-image}
+use Rattle.graph.proofs.Neighbours.{mem-below, below-mem}
+use Rattle.exponent.specs.declared.index.Shape.{Shape}
+use Rattle.exponent.specs.Limits.{WellFormed}
+use Rattle.exponent.specs.Tanner.{tanner, columnWeight, rowWeight}
+use Rattle.exponent.proofs.Numbers.{block-of, number-low}
+use Rattle.lines.specs.declared.sides.Side.{Side}
+use Rattle.lines.specs.declared.sides.Side.the-variants.{Bits, Checks}
+use Rattle.lines.specs.Alist.{nodes, neighbours, degrees, greatest, fill}
+use Rattle.lines.specs.Sides.{graph, lanes, blocks, weightOf}
+use Rattle.lines.proofs.Lanes.{range-next, range-end, node-lane, nodes-of, weight-le, degree-weight}
+
+-- The greatest of a list: no member is greater, and nothing that no member exceeds is less.
+
+pub greatest-mem : (x : ℕ) (l : List ℕ) → Mem x l → x ≤ greatest l
+unfolding greatest
+greatest-mem x [] m = absurd m
+greatest-mem x (y ∷ l) (inl e) = omega arith
+greatest-mem x (y ∷ l) (inr m) = omega (arith, greatest-mem x l m)
+
+pub greatest-le : (n : ℕ) (l : List ℕ) → ((x : ℕ) → Mem x l → x ≤ n) → greatest l ≤ n
+unfolding greatest
+greatest-le n [] h = zero-le
+greatest-le n (y ∷ l) h = omega (arith, h y (inl refl), greatest-le n l (λ x m. h x (inr m)))
+
+-- THE GREATEST DEGREE: no node has more neighbours, so filling up a node's list cuts nothing
+pub degree-most : (G : Bipartite) (side : Side) (x : ℕ) → x < nodes G side → length (neighbours G side x) ≤ greatest (degrees G side)
+unfolding degrees
+degree-most G side x h =
+    greatest-mem (length (neighbours G side x)) (degrees G side) (mem-image (λ x. length (neighbours G side x)) x (below (nodes G side)) (below-mem x (nodes G side) h))
+
+-- zeros up to a width
+unfoldable pub zeros : ℕ → List ℕ
+zeros zero = []
+zeros (suc n) = 0 ∷ zeros n
+
+pub fill-keeps : (width : ℕ) (l : List ℕ) → length l ≤ width → fill width l ≡ l ++ zeros (width - length l)
+unfolding fill zeros
+fill-keeps zero [] h = refl
+fill-keeps zero (x ∷ l) h = absurd (omega arith)
+fill-keeps (suc w) [] h = ap (λ (l : List ℕ). 0 ∷ l) (fill-keeps w [] zero-le ∙ ap zeros (sub-zero w)) ∙ ap zeros (sym (sub-zero (suc w)))
+fill-keeps (suc w) (x ∷ l) h =
+    ap (λ (l : List ℕ). x ∷ l) (fill-keeps w l (omega arith)) ∙ ap (λ (n : ℕ). x ∷ l ++ zeros n) (let e : w - length l ≡ suc w - length (x ∷ l) = omega arith in e)
+
+pub list-whole : (G : Bipartite) (side : Side) (x : ℕ) → x < nodes G side
+    → fill (greatest (degrees G side)) (map suc (neighbours G side x)) ≡ map suc (neighbours G side x) ++ zeros (greatest (degrees G side) - length (neighbours G side x))
+list-whole G side x h =
+    let same = length-map (neighbours G side x) suc in
+    fill-keeps (greatest (degrees G side)) (map suc (neighbours G side x)) (omega (arith, same, degree-most G side x h))
+    ∙ ap (λ (n : ℕ). map suc (neighbours G side x) ++ zeros (greatest (degrees G side) - n)) same
+
+-- A valid plan: every degree is the weight of a column, or of a row.
+
+map-same : (f g : ℕ → ℕ) (l : List ℕ) → ((x : ℕ) → f x ≡ g x) → map f l ≡ map g l
+map-same f g [] h = refl
+map-same f g (x ∷ l) h = ap₂ (λ (n : ℕ) (m : List ℕ). n ∷ m) (h x) (map-same f g l h)
+
+module _ (plan : List ℤ) (rows cols lift : ℕ) (w : WellFormed plan rows cols lift) where
+  abbrev shape : Shape
+  shape = record { rows = rows; cols = cols; lift = lift }
+
+  pub bit-degrees : degrees (tanner plan rows cols lift) Bits ≡ map (λ b. columnWeight plan rows cols lift (b / lift)) (below (cols * lift))
+  unfolding degrees tanner
+  bit-degrees = map-same _ _ (below (cols * lift)) (degree-weight plan shape w Bits)
+
+  pub check-degrees : degrees (tanner plan rows cols lift) Checks ≡ map (λ c. rowWeight plan cols lift (c / lift)) (below (rows * lift))
+  unfolding degrees tanner
+  check-degrees = map-same _ _ (below (rows * lift)) (degree-weight plan shape w Checks)
+
+-- The greatest degree of a side, lane by lane.
+
+pub mostFrom : (ℕ → ℕ) → ℕ → ℕ → ℕ
+mostFrom f n k = greatest (map f (range k (n - k)))
+
+pub most-next : (f : ℕ → ℕ) (n k : ℕ) → k < n → mostFrom f n k ≡ max (f k) (mostFrom f n (k + 1))
+unfolding mostFrom greatest
+most-next f n k h = ap (λ (l : List ℕ). greatest (map f l)) (range-next k n h)
+
+pub most-end : (f : ℕ → ℕ) (n k : ℕ) → n ≤ k → mostFrom f n k ≡ 0
+unfolding mostFrom greatest
+most-end f n k h = ap (λ (l : List ℕ). greatest (map f l)) (range-end k n h)
+
+module _ (plan : List ℤ) (s : Shape) (w : WellFormed plan (s .rows) (s .cols) (s .lift)) (side : Side) where
+  pub most-start : mostFrom (weightOf plan s side) (lanes s side) 0 ≡ greatest (degrees (graph plan s) side)
+  unfolding mostFrom degrees
+  most-start = ap (λ (n : ℕ). greatest (map (weightOf plan s side) (range 0 n))) (let e : lanes s side - 0 ≡ lanes s side = omega arith in e) ∙ omega (arith, up, down)
+    where
+      down : greatest (map (weightOf plan s side) (below (lanes s side))) ≤ greatest (degrees (graph plan s) side)
+      down =
+          greatest-le (greatest (degrees (graph plan s) side)) (map (weightOf plan s side) (below (lanes s side)))
+          (each-image (weightOf plan s side) (λ n. n ≤ greatest (degrees (graph plan s) side)) (below (lanes s side)) (λ lane m.
+          let low = number-low (s .lift) (w .some-lift) lane 0 (lanes s side) (mem-below lane (lanes s side) m) (w .some-lift) in
+          let same = degree-weight plan s w side (lane * s .lift + 0) ∙ ap (weightOf plan s side) (block-of (s .lift) (w .some-lift) lane 0 (w .some-lift)) in
+          omega (arith, same, degree-most (graph plan s) side (lane * s .lift + 0) (omega (arith, low, nodes-of plan s side)))))
+
+      up : greatest (degrees (graph plan s) side) ≤ greatest (map (weightOf plan s side) (below (lanes s side)))
+      up =
+          greatest-le (greatest (map (weightOf plan s side) (below (lanes s side)))) (degrees (graph plan s) side)
+          (each-image (λ x. length (neighbours (graph plan s) side x)) (λ n. n ≤ greatest (map (weightOf plan s side) (below (lanes s side)))) (below (nodes (graph plan s) side))
+          (λ x m.
+          let low = node-lane s side x (w .some-lift) (omega (arith, mem-below x (nodes (graph plan s) side) m, nodes-of plan s side)) in
+          let member = mem-image (weightOf plan s side) (x / s .lift) (below (lanes s side)) (below-mem (x / s .lift) (lanes s side) low) in
+          omega (arith, degree-weight plan s w side x, greatest-mem (weightOf plan s side (x / s .lift)) (map (weightOf plan s side) (below (lanes s side))) member)))
+
+  -- no greatest degree exceeds the blocks of a lane
+  pub most-few : greatest (degrees (graph plan s) side) ≤ blocks s side
+  unfolding degrees
+  most-few =
+      greatest-le (blocks s side) (degrees (graph plan s) side)
+      (each-image (λ x. length (neighbours (graph plan s) side x)) (λ n. n ≤ blocks s side) (below (nodes (graph plan s) side))
+      (λ x m. omega (arith, degree-weight plan s w side x, weight-le plan s side (x / s .lift))))

@@ -1,0 +1,3 @@
+pub mod Alist
+pub mod Sides
+pub mod Lines

@@ -1,0 +1,81 @@
+-- What the inner functions compute of a line: its width, and its numbers from one on. The lines in their order.
+use Prim.Native.Nat.{ℕ, zero, suc, _+_, _-_, _/_, _%_, _<_}
+use mathlib.Core.Path.{_≡_}
+use mathlib.Core.List.{List, [], _∷_, _++_, map}
+use lib.IntN.{ℤ}
+use lib.ListN.{drop}
+use Rattle.graph.specs.Count.{below}
+use Rattle.graph.specs.Graph.{Bipartite}
+use Rattle.exponent.specs.declared.index.Shape.{Shape}
+use Rattle.lines.specs.declared.sides.Side.{Side}
+use Rattle.lines.specs.declared.sides.Side.the-variants.{Bits, Checks}
+use Rattle.lines.specs.declared.Layout.{Layout}
+use Rattle.lines.specs.declared.Line.{Line}
+use Rattle.lines.specs.declared.Line.the-variants.{Sizes, Greatest, Degrees, Node}
+use Rattle.lines.specs.declared.generate.Number.{Number}
+use Rattle.lines.specs.Alist.{nodes, neighbours, degrees, greatest, fill}
+use Rattle.lines.specs.Sides.{graph, Ready, nodeCount, weightOf, restOf}
+
+-- the numbers of a line
+unfoldable pub lineOf : Bipartite → Line → List ℕ
+lineOf G Sizes = nodes G Bits ∷ nodes G Checks ∷ []
+lineOf G Greatest = greatest (degrees G Bits) ∷ greatest (degrees G Checks) ∷ []
+lineOf G (Degrees side) = degrees G side
+lineOf G (Node side x) = fill (greatest (degrees G side)) (map suc (neighbours G side x))
+
+-- the lines in their order
+unfoldable pub order : Shape → List Line
+order s =
+    Sizes
+    ∷ Greatest
+    ∷ Degrees Bits
+    ∷ Degrees Checks
+    ∷ map (λ x. Node Bits x) (below (nodeCount s Bits)) ++ map (λ x. Node Checks x) (below (nodeCount s Checks))
+
+abbrev pub lineCount : Layout → ℕ
+lineCount l = 4 + (nodeCount (l .shape) Bits + nodeCount (l .shape) Checks)
+
+abbrev pub sideAt : ℕ → Side
+sideAt zero = Bits
+sideAt (suc k) = Checks
+
+abbrev pub mostOf : Layout → Side → ℕ
+mostOf l Bits = l .bits
+mostOf l Checks = l .checks
+
+-- the layout is that of the plan
+pub record Measured (plan : List ℤ) (l : Layout) (down along : List ℕ) : Type 0 where
+  pub ready : Ready plan (l .shape) down along
+  pub most-bits : l .bits ≡ greatest (degrees (graph plan (l .shape)) Bits)
+  pub most-checks : l .checks ≡ greatest (degrees (graph plan (l .shape)) Checks)
+
+abbrev pub widthOf : Layout → Line → ℕ
+widthOf l Sizes = 2
+widthOf l Greatest = 2
+widthOf l (Degrees side) = nodeCount (l .shape) side
+widthOf l (Node side x) = mostOf l side
+
+-- the line is one of the plan's
+abbrev pub InLine : Layout → Line → Type 0
+InLine l Sizes = Unit {0}
+InLine l Greatest = Unit {0}
+InLine l (Degrees side) = Unit {0}
+InLine l (Node side x) = x < nodeCount (l .shape) side
+
+-- the numbers of a line from its k-th on, where the blocks before `from` are done
+unfoldable pub lineRest : List ℤ → Layout → Line → ℕ → ℕ → List ℕ
+lineRest plan l Sizes k from = drop k (lineOf (graph plan (l .shape)) Sizes)
+lineRest plan l Greatest k from = drop k (lineOf (graph plan (l .shape)) Greatest)
+lineRest plan l (Degrees side) k from = drop k (lineOf (graph plan (l .shape)) (Degrees side))
+lineRest plan l (Node side x) k from = fill (mostOf l side - k) (map suc (restOf plan (l .shape) side x from))
+
+-- what goes from a number of a line to the next: of degrees the last one, which the nodes of a lane share
+abbrev pub Carried : List ℤ → Layout → Line → ℕ → ℕ → Type 0
+Carried plan l Sizes k from = Unit {0}
+Carried plan l Greatest k from = Unit {0}
+Carried plan l (Degrees side) k from = 0 < k % l .shape .lift → from ≡ weightOf plan (l .shape) side (k / l .shape .lift)
+Carried plan l (Node side x) k from = Unit {0}
+
+-- a number that goes on a line filled up with 0: `rest k` is what is left from block k on
+pub record Fills (rest : ℕ → List ℕ) (from : ℕ) (r : Number) : Type 0 where
+  pub fills : (w : ℕ) → fill (suc w) (map suc (rest from)) ≡ r .value ∷ fill w (map suc (rest (r .next)))

@@ -1,0 +1,90 @@
+-- What the inner functions compute: a node's blocks and neighbours, on either side of the graph. A bit's blocks are those of
+-- its column, a check's those of its row: a lane of blocks.
+use Prim.Native.Nat.{ℕ, suc, _+_, _-_, _*_, _/_, _%_, _≤_}
+use mathlib.Core.Bool.{Bool, cond}
+use mathlib.Core.List.{List}
+use mathlib.Core.Option.{Option, none, some}
+use lib.Dec.{ltb}
+use lib.IntN.{ℤ}
+use lib.ListN.{getD}
+use Rattle.graph.specs.Count.{range, one}
+use Rattle.graph.specs.Graph.{Bipartite}
+use Rattle.exponent.specs.declared.block.Block.{Block}
+use Rattle.exponent.specs.declared.index.Shape.{Shape}
+use Rattle.exponent.specs.Plan.{blockAt, filled}
+use Rattle.exponent.specs.Limits.{WellFormed}
+use Rattle.exponent.specs.Tanner.{tanner, columnWeight, rowWeight}
+use Rattle.exponent.specs.Index.{DownIndex, AlongIndex}
+use Rattle.exponent.proofs.Blocks.{gather}
+use Rattle.exponent.proofs.Tanner.{bitIn, checkIn}
+use Rattle.lines.specs.declared.sides.Side.{Side}
+use Rattle.lines.specs.declared.sides.Side.the-variants.{Bits, Checks}
+
+abbrev pub graph : List ℤ → Shape → Bipartite
+graph plan s = tanner plan (s .rows) (s .cols) (s .lift)
+
+-- a valid plan with its two index lists
+pub record Ready (plan : List ℤ) (s : Shape) (down along : List ℕ) : Type 0 where
+  pub well : WellFormed plan (s .rows) (s .cols) (s .lift)
+  pub down-index : DownIndex plan s down
+  pub along-index : AlongIndex plan s along
+
+-- sizes whose products are small
+pub record Small (s : Shape) : Type 0 where
+  pub few-rows : s .rows ≤ 192
+  pub few-cols : s .cols ≤ 512
+  pub small-lift : s .lift ≤ 4096
+
+abbrev pub lanes : Shape → Side → ℕ
+lanes s Bits = s .cols
+lanes s Checks = s .rows
+
+abbrev pub blocks : Shape → Side → ℕ
+blocks s Bits = s .rows
+blocks s Checks = s .cols
+
+abbrev pub nodeCount : Shape → Side → ℕ
+nodeCount s side = lanes s side * s .lift
+
+abbrev pub blockOn : List ℤ → Shape → Side → ℕ → ℕ → Block
+blockOn plan s Bits lane k = blockAt plan (s .cols) (s .lift) k lane
+blockOn plan s Checks lane k = blockAt plan (s .cols) (s .lift) lane k
+
+abbrev pub filledOn : List ℤ → Shape → Side → ℕ → ℕ → Bool
+filledOn plan s side lane k = filled (blockOn plan s side lane k)
+
+-- what the index lists say of the blocks from k on
+abbrev pub nextBlock : List ℕ → List ℕ → Shape → Side → ℕ → ℕ → ℕ
+nextBlock down along s Bits lane k = getD down (k * s .cols + lane) 0
+nextBlock down along s Checks lane k = getD along (lane * s .cols + k) 0
+
+unfoldable pub filledOne : List ℤ → Shape → Side → ℕ → ℕ → ℕ
+filledOne plan s side lane k = cond (ltb k (blocks s side)) (one (filledOn plan s side lane k)) 0
+
+abbrev pub weightOf : List ℤ → Shape → Side → ℕ → ℕ
+weightOf plan s Bits lane = columnWeight plan (s .rows) (s .cols) (s .lift) lane
+weightOf plan s Checks lane = rowWeight plan (s .cols) (s .lift) lane
+
+-- where a block shifted by e leads from place y of its lane: back from a bit to a check, forward from a check to a bit
+abbrev pub turned : Side → ℕ → ℕ → ℕ → ℕ
+turned Bits lift y e = (y + (lift - e)) % lift
+turned Checks lift y e = (y + e) % lift
+
+-- the place that a block has for node y of its lane
+abbrev pub pickBy : Side → ℕ → ℕ → Block → Option ℕ
+pickBy Bits lift y b = checkIn lift y b
+pickBy Checks lift y b = bitIn lift y b
+
+abbrev pub pickOn : List ℤ → Shape → Side → ℕ → ℕ → ℕ → Option ℕ
+pickOn plan s side lane y k = pickBy side (s .lift) y (blockOn plan s side lane k)
+
+abbrev pub numbered : ℕ → ℕ → Option ℕ → ℕ
+numbered lift k none = 0
+numbered lift k (some v) = suc (k * lift + v)
+
+unfoldable pub numberIn : List ℤ → Shape → Side → ℕ → ℕ → ℕ → ℕ
+numberIn plan s side lane y k = cond (ltb k (blocks s side)) (numbered (s .lift) k (pickOn plan s side lane y k)) 0
+
+-- the neighbours of node x in the blocks from k on
+unfoldable pub restOf : List ℤ → Shape → Side → ℕ → ℕ → List ℕ
+restOf plan s side x k = gather (s .lift) (pickOn plan s side (x / s .lift) (x % s .lift)) (range k (blocks s side - k))

@@ -1,0 +1,96 @@
+// The numbers of the alist, line by line (document 01, "alist text"): here the lines in their order.
+ghost use mathlib.Core.Path.{_≡_};
+ghost use Prim.Native.Nat.{_+_, _<_};
+ghost use lib.ListN.{getD};
+ghost use Rattle.lines.specs.Sides.{Small, Ready, nodeCount};
+ghost use Rattle.lines.specs.Lines.{sideAt, mostOf, Measured, widthOf, InLine, lineCount, order};
+
+pub mod generate; // generate.rt: the numbers of a line, one after the other
+pub mod sides; // sides.rt: bits and checks, their blocks and their degrees
+
+use exponent::index::Shape;
+use sides::Side;
+
+// The sizes of a plan, and the greatest degree of a bit and of a check.
+pub struct Layout {
+    pub shape: Shape,
+    pub bits: usize,
+    pub checks: usize,
+}
+
+// A line of the alist: the degrees of a side, or the neighbours of a node, among others.
+pub enum Line {
+    Sizes,
+    Greatest,
+    Degrees(Side),
+    Node(Side, usize),
+}
+
+// The side that a line's number k belongs to, in the two lines that have one number of each.
+pub fn side_at(k: usize) -> Side
+    ensures { λ r. ⌜ r ≡ sideAt k ⌝ }
+{
+    if k == 0 { Side::Bits } else { Side::Checks }
+}
+
+// The greatest degree of a side.
+pub fn most_of(l: Layout, side: Side) -> usize
+    ensures { λ r. ⌜ r ≡ mostOf l side ⌝ }
+{
+    match side {
+        Side::Bits => l.bits,
+        Side::Checks => l.checks,
+    }
+}
+
+// How many numbers a line has.
+pub fn width(l: Layout, line: Line) -> usize
+    requires { ⌜ Small (l .shape) ⌝ }
+    ensures { λ r. ⌜ r ≡ widthOf l line ⌝ }
+{
+    match line {
+        Line::Sizes => 2,
+        Line::Greatest => 2,
+        Line::Degrees(side) => sides::node_count(l.shape, side),
+        Line::Node(side, _) => most_of(l, side),
+    }
+}
+
+// How many lines there are.
+pub fn line_count(l: Layout) -> usize
+    requires { ⌜ Small (l .shape) ⌝ }
+    ensures { λ r. ⌜ r ≡ lineCount l ⌝ }
+{
+    4 + (sides::node_count(l.shape, Side::Bits) + sides::node_count(l.shape, Side::Checks))
+}
+
+// Line i: four of all nodes, and then one for each bit and one for each check.
+pub fn line_at(l: Layout, i: usize) -> Line
+    requires { ⌜ Small (l .shape) × (i < lineCount l) ⌝ }
+    ensures { λ r. ⌜ (r ≡ getD (order (l .shape)) i Line.Sizes) × InLine l r ⌝ }
+{
+    let bits = sides::node_count(l.shape, Side::Bits);
+    match i {
+        0 => Line::Sizes,
+        1 => Line::Greatest,
+        2 => Line::Degrees(Side::Bits),
+        3 => Line::Degrees(Side::Checks),
+        _ => if i < 4 + bits {
+            Line::Node(Side::Bits, i - 4)
+        } else {
+            Line::Node(Side::Checks, i - 4 - bits)
+        },
+    }
+}
+
+// The layout of a plan.
+pub fn measure(plan: &[i16], down: &[u16], along: &[u16], s: Shape) -> Layout
+    requires { ⌜ Ready (now plan) s (now down) (now along) ⌝ }
+    ensures { λ r. ⌜ (r .shape ≡ s) × Measured (now (plan .entry)) r (now (down .entry)) (now (along .entry)) ⌝ }
+{
+    Layout {
+        shape: s,
+        bits: sides::most(plan, down, along, s, Side::Bits),
+        checks: sides::most(plan, down, along, s, Side::Checks),
+    }
+}

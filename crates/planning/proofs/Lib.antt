@@ -1,0 +1,5 @@
+pub mod Tokens
+pub mod Plans
+pub mod Printing
+pub mod Answers
+pub mod Outputs

@@ -1,0 +1,101 @@
+-- Rows 1 to 6 and 14, the plan designer's: the tests of `validate` and of the girth test say what the rows say. Assumes nothing.
+use Prim.Native.Nat.{ℕ, zero, suc, _*_}
+use mathlib.Core.Path.{_≡_, refl, sym, ap}
+use mathlib.Core.Logic.{_↔_, inl, _≢_}
+use mathlib.Core.Bool.{true, false, not, _||_}
+use mathlib.Core.List.{List, []}
+use borrow.Author.Tests.{ltb-true, lt-ltb, eqb-false, ne-eqb, not-true}
+use lib.Dec.{ltb, eqb}
+use lib.IntN.{ℤ, pos, negsuc}
+use lib.ListN.{length, getD}
+use Rattle.refusal.specs.declared.Refusal.{Refusal}
+use Rattle.refusal.specs.declared.Refusal.the-variants.{Rows, Cols, Lift, Bits, PlanLength, Entry, Target}
+use Rattle.refusal.specs.Lowest.{refuse, In, later}
+use Rattle.refusal.specs.Place.{First, firstPlace, somewhere}
+use Rattle.refusal.proofs.Place.{first-exactly}
+use Rattle.graph.specs.Count.{member}
+use Rattle.graph.proofs.Decide.{by-bool, both-ways, neither}
+use Rattle.exponent.specs.Plan.{invalidEntry}
+use Rattle.exponent.specs.Limits.{outside, planRules}
+use Rattle.exponent.proofs.Rules.{outside-exactly}
+use Rattle.girth.specs.Test.{allowed, testRules}
+use Rattle.promises.specs.TurnedAway.{row-3, IsBlock, empty, filled, PlanRow, row-1, row-2, of-lift, row-4, row-5, row-6, TargetRow, row-14, _or_}
+use Rattle.promises.proofs.Matching.{Matches, join, by-rule, no-rule, at-rule, one-rule}
+
+-- two numbers that the test finds different
+pub differs : (m n : ℕ) → (not (eqb m n) ≡ true) ↔ (m ≢ n)
+differs m n = (λ e q. eqb-false m n (not-true (eqb m n) e) q, λ h. ap not (ne-eqb m n h))
+
+-- an entry is invalid exactly where it is no block
+is-block : {lift : ℕ} {z : ℤ} → IsBlock lift z → invalidEntry lift z ≡ false
+is-block empty = refl
+is-block {lift} (filled e h) = rw (lt-ltb e lift h)
+
+block-is : (lift : ℕ) (z : ℤ) → invalidEntry lift z ≡ false → IsBlock lift z
+block-is lift (pos n) t = by-bool (ltb n lift) (λ e. filled n (ltb-true n lift e)) (λ e. both-ways refl (rw e at t))
+block-is lift (negsuc zero) t = empty
+block-is lift (negsuc (suc n)) t = both-ways refl t
+
+invalid-exactly : (lift : ℕ) (z : ℤ) → (invalidEntry lift z ≡ true) ↔ (IsBlock lift z → ⊥)
+invalid-exactly lift z = (
+  λ e b. both-ways e (is-block b),
+  λ h. by-bool (invalidEntry lift z) (λ e. e) (λ e. absurd (h (block-is lift z e))),
+)
+
+-- 1 TO 6
+module _ (plan : List ℤ) (rows cols lift : ℕ) where
+  first-invalid : (place : ℕ) → ((somewhere (invalidEntry lift) plan ≡ true) × (firstPlace (invalidEntry lift) plan ≡ place))
+      ↔ First (length plan) (λ p. IsBlock lift (getD plan p (pos 0)) → ⊥) place
+  first-invalid place = first-exactly (invalidEntry lift) (pos 0) (λ z. IsBlock lift z → ⊥) (invalid-exactly lift) plan place
+
+  abbrev Row : Refusal → Type 0
+  Row = PlanRow plan rows cols lift
+
+  listed : (s : Refusal) → In (refuse s true) (planRules plan rows cols lift) → Row s
+  unfolding planRules
+  listed s i =
+      by-rule Row Rows (outside 1 192 rows) _ s i (λ e. row-1 (outside-exactly 1 192 rows .0 e)) λ i.
+      by-rule Row Cols (outside 1 512 cols) _ s i (λ e. row-2 (outside-exactly 1 512 cols .0 e)) λ i.
+      by-rule Row Lift (outside 1 4096 lift) _ s i (λ e. of-lift Lift (row-3 (outside-exactly 1 4096 lift .0 e))) λ i.
+      by-rule Row Bits (ltb 65536 (cols * lift)) _ s i (λ e. row-4 (ltb-true 65536 (cols * lift) e)) λ i.
+      by-rule Row PlanLength (not (eqb (length plan) (rows * cols))) _ s i (λ e. row-5 (differs (length plan) (rows * cols) .0 e)) λ i.
+      by-rule Row (Entry (firstPlace (invalidEntry lift) plan)) (somewhere (invalidEntry lift) plan) [] s i (λ e. row-6 _ (first-invalid _ .0 (e, refl))) λ i.
+      no-rule Row s i
+
+  applies : (s : Refusal) → Row s → In (refuse s true) (planRules plan rows cols lift)
+  unfolding planRules
+  applies s (row-1 h) = at-rule _ _ _ _ refl (outside-exactly 1 192 rows .1 h)
+  applies s (row-2 h) = later (at-rule _ _ _ _ refl (outside-exactly 1 512 cols .1 h))
+  applies s (of-lift r (row-3 h)) = later (later (at-rule _ _ _ _ refl (outside-exactly 1 4096 lift .1 h)))
+  applies s (row-4 h) = later (later (later (at-rule _ _ _ _ refl (lt-ltb 65536 (cols * lift) h))))
+  applies s (row-5 h) = later (later (later (later (at-rule _ _ _ _ refl (differs (length plan) (rows * cols) .1 h)))))
+  applies s (row-6 place h) =
+      let (t, e) = first-invalid place .1 h in
+      later (later (later (later (later (at-rule _ _ _ _ (ap Entry (sym e)) t)))))
+
+  pub plan-matches : Matches (planRules plan rows cols lift) (PlanRow plan rows cols lift)
+  plan-matches = record { listed = λ s i. inl (listed s i); applies = applies }
+
+-- 14
+target-exactly : (target : ℕ) → (not (allowed target) ≡ true) ↔ ((target ≢ 6) × (target ≢ 8) × (target ≢ 10) × (target ≢ 12))
+unfolding allowed member
+target-exactly t = (λ e. none-of (not-true _ e), λ (p, q, r, s). rw (ne-eqb t 6 p, ne-eqb t 8 q, ne-eqb t 10 r, ne-eqb t 12 s))
+  where
+    none-of : (eqb t 6 || (eqb t 8 || (eqb t 10 || (eqb t 12 || false)))) ≡ false → (t ≢ 6) × (t ≢ 8) × (t ≢ 10) × (t ≢ 12)
+    none-of e =
+        let (p, e) = neither (eqb t 6) _ e in
+        let (q, e) = neither (eqb t 8) _ e in
+        let (r, e) = neither (eqb t 10) _ e in
+        (eqb-false t 6 p, eqb-false t 8 q, eqb-false t 10 r, eqb-false t 12 (neither (eqb t 12) false e .0))
+
+pub test-matches : (plan : List ℤ) (rows cols lift target : ℕ) → Matches (testRules plan rows cols lift target) (PlanRow plan rows cols lift or TargetRow target)
+unfolding testRules
+test-matches plan rows cols lift target =
+    join (planRules plan rows cols lift) _ (PlanRow plan rows cols lift) (TargetRow target) (plan-matches plan rows cols lift)
+    (one-rule Target (not (allowed target)) (TargetRow target) told row)
+  where
+    told : not (allowed target) ≡ true → TargetRow target Target
+    told e = let (p, q, r, s) = target-exactly target .0 e in row-14 p q r s
+
+    row : (s : Refusal) → TargetRow target s → (s ≡ Target) × (not (allowed target) ≡ true)
+    row s (row-14 p q r t) = (refl, target-exactly target .1 (p, q, r, t))

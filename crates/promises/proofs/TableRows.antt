@@ -1,0 +1,171 @@
+-- Rows 3, 7 to 13 and 15, of tables and masks: the tests of the table calls say what the rows say. The tests of 13 and 15 take a weight
+-- from the mask in any case; where there is no common one, 12 applies. Assumes nothing.
+use Prim.Native.Nat.{ℕ, _*_, _<_}
+use mathlib.Core.Path.{_≡_, refl, sym, ap, subst, _∙_}
+use mathlib.Core.Logic.{_↔_, _⊎_, inl, inr, _≢_}
+use mathlib.Core.Bool.{true, not, _||_}
+use mathlib.Core.List.{List, []}
+use native.Mathlib.Omega.{arith}
+use borrow.Author.Tests.{ltb-true, lt-ltb}
+use lib.Dec.{ltb, eqb}
+use lib.IntN.{ℤ, pos, negsuc}
+use lib.ListN.{length, getD, List·getD-eq-default}
+use Rattle.refusal.specs.declared.Refusal.{Refusal}
+use Rattle.refusal.specs.declared.Refusal.the-variants.{Lift, Order, TableLength, NegativeEntry, MaskByte, MaskWeight, TableBits, PlanPlace}
+use Rattle.refusal.specs.Number.{number}
+use Rattle.refusal.specs.Lowest.{refuse, In, later}
+use Rattle.refusal.specs.Place.{First, firstPlace, somewhere}
+use Rattle.refusal.proofs.Place.{first-exactly, at-first, somewhere-no}
+use Rattle.graph.proofs.Decide.{by-bool, by-le, both-ways}
+use Rattle.exponent.specs.Limits.{outside}
+use Rattle.exponent.proofs.Rules.{outside-exactly}
+use Rattle.square.specs.Table.{tableAt, negative, unsound, firstRepeat}
+use Rattle.square.specs.Mask.{common, weight, Common}
+use Rattle.square.proofs.Repeats as repeats
+use Rattle.square.proofs.Weights.{weight-common, no-weight-exactly, weight-first, weight-is}
+use Rattle.table.specs.Plan.{planRows, planCols}
+use Rattle.table.specs.Build.{supplyRules, unsoundAt, tableRules, maskRules, buildRules}
+use Rattle.promises.specs.TurnedAway.{LiftRow, row-3, SquareRow, row-7, row-8, IsNegative, TableRow, row-9, row-10, MaskRow, row-11, row-12, row-13, PlaceRow, row-15, _or_}
+use Rattle.promises.specs.TurnedAway as away
+use Rattle.promises.proofs.Matching.{Lower, Matches, join, by-rule, no-rule, at-rule}
+use Rattle.promises.proofs.PlanRows.{differs}
+
+-- 7 AND 8
+module _ (order numbers : ℕ) where
+  square-listed : (s : Refusal) → In (refuse s true) (supplyRules order numbers) → SquareRow order numbers s
+  unfolding supplyRules
+  square-listed s i =
+      by-rule (SquareRow order numbers) Order (outside 4 7 order) _ s i (λ e. row-7 (outside-exactly 4 7 order .0 e)) λ i.
+      by-rule (SquareRow order numbers) TableLength (not (eqb numbers (order * order))) [] s i (λ e. row-8 (differs numbers (order * order) .0 e)) λ i.
+      no-rule (SquareRow order numbers) s i
+
+  square-applies : (s : Refusal) → SquareRow order numbers s → In (refuse s true) (supplyRules order numbers)
+  unfolding supplyRules
+  square-applies s (row-7 h) = at-rule _ _ _ _ refl (outside-exactly 4 7 order .1 h)
+  square-applies s (row-8 h) = later (at-rule _ _ _ _ refl (differs numbers (order * order) .1 h))
+
+  pub supply-matches : Matches (supplyRules order numbers) (SquareRow order numbers)
+  supply-matches = record { listed = λ s i. inl (square-listed s i); applies = square-applies }
+
+-- an entry is found negative exactly where it is
+negative-exactly : (z : ℤ) → (negative z ≡ true) ↔ IsNegative z
+negative-exactly z = (is-negative z, found)
+  where
+    is-negative : (z : ℤ) → negative z ≡ true → IsNegative z
+    is-negative (pos n) e = both-ways e refl
+    is-negative (negsuc n) e = away.negative n
+
+    found : {z : ℤ} → IsNegative z → negative z ≡ true
+    found (away.negative n) = refl
+
+-- 3 AND 7 TO 10
+module _ (order lift : ℕ) (table : List ℤ) where
+  abbrev Rows : Refusal → Type 0
+  Rows = LiftRow lift or SquareRow order (length table) or TableRow order lift table
+
+  first-negative : (place : ℕ) → ((somewhere negative table ≡ true) × (firstPlace negative table ≡ place)) ↔ First (length table) (λ p. IsNegative (getD table p (pos 0))) place
+  first-negative place = first-exactly negative (pos 0) IsNegative negative-exactly table place
+
+  -- an order of 0 has no rows that repeat; it is turned away by 7
+  repeat-row : unsound order lift (tableAt order table) ≡ true → Rows (unsoundAt (firstRepeat order lift (tableAt order table))) ⊎ Lower Rows (unsoundAt (firstRepeat order lift (tableAt order table)))
+  repeat-row e =
+      by-le 1 order
+      (λ h. let (r, first) = repeats.first-exactly order lift (tableAt order table) h (firstRepeat order lift (tableAt order table)) .0 (e, refl) in inl (inr (row-10 _ r first)))
+      (λ h. inr (record { other = Order; applies = inl (inr (row-7 (inl (omega arith)))); lower = omega arith }))
+
+  table-listed : (s : Refusal) → In (refuse s true) (tableRules order lift table) → Rows s ⊎ Lower Rows s
+  unfolding tableRules
+  table-listed s i =
+      let C : Refusal → Type 0 = λ s. Rows s ⊎ Lower Rows s in
+      by-rule C Lift (outside 1 4096 lift) _ s i (λ e. inl (inl (inl (row-3 (outside-exactly 1 4096 lift .0 e))))) λ i.
+      by-rule C Order (outside 4 7 order) _ s i (λ e. inl (inl (inr (row-7 (outside-exactly 4 7 order .0 e))))) λ i.
+      by-rule C TableLength (not (eqb (length table) (order * order))) _ s i (λ e. inl (inl (inr (row-8 (differs (length table) (order * order) .0 e))))) λ i.
+      by-rule C (NegativeEntry (firstPlace negative table)) (somewhere negative table) _ s i (λ e. inl (inr (row-9 _ (first-negative _ .0 (e, refl))))) λ i.
+      by-rule C (unsoundAt (firstRepeat order lift (tableAt order table))) (unsound order lift (tableAt order table)) [] s i repeat-row λ i.
+      no-rule C s i
+
+  table-applies : (s : Refusal) → Rows s → In (refuse s true) (tableRules order lift table)
+  unfolding tableRules
+  table-applies s (inl (inl (row-3 h))) = at-rule _ _ _ _ refl (outside-exactly 1 4096 lift .1 h)
+  table-applies s (inl (inr (row-7 h))) = later (at-rule _ _ _ _ refl (outside-exactly 4 7 order .1 h))
+  table-applies s (inl (inr (row-8 h))) = later (later (at-rule _ _ _ _ refl (differs (length table) (order * order) .1 h)))
+  table-applies s (inr (row-9 place h)) =
+      let (t, e) = first-negative place .1 h in
+      later (later (later (at-rule _ _ _ _ (ap NegativeEntry (sym e)) t)))
+  table-applies s (inr (row-10 q r first)) =
+      let (t, e) = repeats.first-exactly order lift (tableAt order table) (omega (arith, r .row-in)) q .1 (r, first) in
+      later (later (later (later (at-rule _ _ _ _ (ap unsoundAt (sym e)) t))))
+
+  table-matches : Matches (tableRules order lift table) (LiftRow lift or SquareRow order (length table) or TableRow order lift table)
+  table-matches = record { listed = table-listed; applies = table-applies }
+
+-- 11 TO 13 AND 15
+module _ (order lift : ℕ) (mask : List ℕ) (room : ℕ) where
+  abbrev Masked : Refusal → Type 0
+  Masked = MaskRow order lift mask or PlaceRow order mask room
+
+  abbrev bad-mask : Type 0
+  bad-mask = (length mask ≢ order * order) ⊎ ((place : ℕ) × (1 < getD mask place 0))
+
+  mask-exactly : ((not (eqb (length mask) (order * order)) || somewhere (ltb 1) mask) ≡ true) ↔ bad-mask
+  mask-exactly = (
+    λ e. by-bool (not (eqb (length mask) (order * order)))
+        (λ p. inl (differs (length mask) (order * order) .0 p))
+        (λ p.
+        let h : firstPlace (ltb 1) mask < length mask = ltb-true _ _ (rw p at e) in
+        inr (firstPlace (ltb 1) mask, ltb-true 1 _ (at-first (ltb 1) 0 mask h))),
+    found,
+  )
+    where
+      byte : (place : ℕ) → 1 < getD mask place 0 → somewhere (ltb 1) mask ≡ true
+      byte place h =
+          by-bool (somewhere (ltb 1) mask) (λ e. e) λ e.
+          by-le (length mask) place
+          (λ k. absurd (omega (arith, List·getD-eq-default mask 0 k)))
+          (λ k. both-ways (lt-ltb 1 (getD mask place 0) h) (somewhere-no (ltb 1) 0 mask e place k))
+
+      found : bad-mask → (not (eqb (length mask) (order * order)) || somewhere (ltb 1) mask) ≡ true
+      found (inl h) = rw (differs (length mask) (order * order) .1 h)
+      found (inr (place, h)) = by-bool (not (eqb (length mask) (order * order))) (λ p. rw p) (λ p. rw (p, byte place h))
+
+  -- the weight is the common one; where there is none, 12 applies, whose number is lower than n
+  weight-of : (L : ℕ) → Common order mask L → L ≡ weight order mask
+  weight-of L w =
+      let e = by-bool (common order mask) (λ e. e) (λ e. absurd (no-weight-exactly order mask .0 (ap not e) L w)) in
+      weight-first order mask L w ∙ sym (weight-is order mask e)
+
+  by-weight : (s : Refusal) → 12 < number s → (Common order mask (weight order mask) → Masked s) → Masked s ⊎ Lower Masked s
+  by-weight s low f =
+      by-bool (common order mask)
+      (λ e. inl (f (weight-common order mask e)))
+      (λ e. inr (record { other = MaskWeight; applies = inl (row-12 (no-weight-exactly order mask .0 (ap not e))); lower = low }))
+
+  mask-listed : (s : Refusal) → In (refuse s true) (maskRules order lift mask room) → Masked s ⊎ Lower Masked s
+  unfolding maskRules
+  mask-listed s i =
+      let C : Refusal → Type 0 = λ s. Masked s ⊎ Lower Masked s in
+      let L = weight order mask in
+      by-rule C MaskByte (not (eqb (length mask) (order * order)) || somewhere (ltb 1) mask) _ s i (λ e. inl (inl (row-11 (mask-exactly .0 e)))) λ i.
+      by-rule C MaskWeight (not (common order mask)) _ s i (λ e. inl (inl (row-12 (no-weight-exactly order mask .0 e)))) λ i.
+      by-rule C TableBits (ltb 65536 (planCols order L * lift)) _ s i (λ e. by-weight TableBits (omega arith) (λ w. inl (row-13 L w (ltb-true _ _ e)))) λ i.
+      by-rule C PlanPlace (not (eqb room (planRows order L * planCols order L))) [] s i (λ e. by-weight PlanPlace (omega arith) (λ w. inr (row-15 L w (differs _ _ .0 e)))) λ i.
+      no-rule C s i
+
+  mask-applies : (s : Refusal) → Masked s → In (refuse s true) (maskRules order lift mask room)
+  unfolding maskRules
+  mask-applies s (inl (row-11 h)) = at-rule _ _ _ _ refl (mask-exactly .1 h)
+  mask-applies s (inl (row-12 h)) = later (at-rule _ _ _ _ refl (no-weight-exactly order mask .1 h))
+  mask-applies s (inl (row-13 L w h)) =
+      later (later (at-rule _ _ _ _ refl (lt-ltb _ _ (subst (λ (L : ℕ). 65536 < planCols order L * lift) (weight-of L w) h))))
+  mask-applies s (inr (row-15 L w h)) =
+      later (later (later (at-rule _ _ _ _ refl (differs _ _ .1 (subst (λ (L : ℕ). room ≢ planRows order L * planCols order L) (weight-of L w) h)))))
+
+  mask-matches : Matches (maskRules order lift mask room) (MaskRow order lift mask or PlaceRow order mask room)
+  mask-matches = record { listed = mask-listed; applies = mask-applies }
+
+pub build-matches : (order lift : ℕ) (table : List ℤ) (mask : List ℕ) (room : ℕ)
+    → Matches (buildRules order lift table mask room)
+    (LiftRow lift or SquareRow order (length table) or TableRow order lift table or (MaskRow order lift mask or PlaceRow order mask room))
+unfolding buildRules
+build-matches order lift table mask room =
+    join (tableRules order lift table) (maskRules order lift mask room) _ _ (table-matches order lift table) (mask-matches order lift mask room)

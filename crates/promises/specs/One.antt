@@ -1,0 +1,116 @@
+-- Promise 1 (document 01): whatever numbers and bytes are handed in, each call answers with a result, or with the lowest numbered refusal
+-- that applies, and only then; and on a refusal nothing lent has changed.
+use Prim.Native.Nat.{ℕ, _*_}
+use mathlib.Core.Path.{_≡_}
+use mathlib.Core.List.{List}
+use mathlib.Core.Option.{Option, none, some}
+use lib.IntN.{ℤ}
+use lib.ListN.{length}
+use Rattle.refusal.specs.declared.Refusal.{Refusal}
+use Rattle.refusal.specs.Lowest.{lowest}
+use Rattle.exponent.specs.declared.Validity.{Validity}
+use Rattle.exponent.specs.declared.Validity.the-variants as validity-answer
+use Rattle.exponent.specs.Limits.{planRules, validity}
+use Rattle.exponent.specs.Tanner.{tanner}
+use Rattle.girth.specs.declared.GirthTest.{GirthTest}
+use Rattle.girth.specs.declared.Outcome.{Outcome}
+use Rattle.girth.specs.declared.Outcome.the-variants as outcome
+use Rattle.girth.specs.Test.{Answer}
+use Rattle.syndrome.specs.declared.Syndrome.{Syndrome}
+use Rattle.syndrome.specs.declared.Syndrome.the-variants as syndrome
+use Rattle.syndrome.specs.Check.{syndromeOf}
+use Rattle.peeling.specs.declared.Filling.{Filling}
+use Rattle.peeling.specs.declared.Filling.the-variants as filling
+use Rattle.peeling.specs.Fill.{fillAnswer, fillWord}
+use Rattle.square.specs.declared.supply.Family.{Family}
+use Rattle.square.specs.Table.{suppliedTable}
+use Rattle.square.specs.Mask.{weight}
+use Rattle.table.specs.declared.Supplied.{Supplied}
+use Rattle.table.specs.declared.Supplied.the-variants as supplied-answer
+use Rattle.table.specs.declared.Built.{Built}
+use Rattle.table.specs.declared.Built.the-variants as built-answer
+use Rattle.table.specs.Build.{lent, supplyRules, supplied, buildRules, builtPlan, built}
+use Rattle.lines.specs.Alist.{alist}
+use Rattle.alist.specs.declared.Written.{Written}
+use Rattle.alist.specs.declared.Written.the-variants as written-answer
+use Rattle.alist.specs.declared.Comparison.{Comparison}
+use Rattle.alist.specs.declared.Comparison.the-variants as comparison-answer
+use Rattle.alist.specs.Text.{numbersOf}
+use Rattle.alist.specs.Calls.{alistText, writeRules, written, laid, compareRules, comparison}
+use Rattle.promises.specs.TurnedAway.{LiftRow, PlanRow, TargetRow, SquareRow, TableRow, MaskRow, PlaceRow, WordRow, RoomRow, ErasureRow, SolutionRow, TokenRow, _or_, LowestOf}
+
+-- the refusal in each kind of answer
+abbrev pub ofValidity : Validity → Option Refusal
+ofValidity validity-answer.Valid = none
+ofValidity (validity-answer.Refused r) = some r
+
+abbrev pub ofOutcome : Outcome → Option Refusal
+ofOutcome outcome.Passed = none
+ofOutcome outcome.Failed = none
+ofOutcome (outcome.Refused r) = some r
+
+abbrev pub ofSyndrome : Syndrome → Option Refusal
+ofSyndrome syndrome.Even = none
+ofSyndrome (syndrome.Odd c) = none
+ofSyndrome (syndrome.Refused r) = some r
+
+abbrev pub ofFilling : Filling → Option Refusal
+ofFilling (filling.Filled filled left) = none
+ofFilling (filling.Refused r) = some r
+
+abbrev pub ofSupplied : Supplied → Option Refusal
+ofSupplied supplied-answer.Supplied = none
+ofSupplied (supplied-answer.Refused r) = some r
+
+abbrev pub ofBuilt : Built → Option Refusal
+ofBuilt (built-answer.Built rows cols) = none
+ofBuilt (built-answer.Refused r) = some r
+
+abbrev pub ofWritten : Written → Option Refusal
+ofWritten (written-answer.Written n) = none
+ofWritten (written-answer.Refused r) = some r
+
+abbrev pub ofComparison : Comparison → Option Refusal
+ofComparison comparison-answer.Agrees = none
+ofComparison (comparison-answer.Refused r) = some r
+
+-- lent memory, before the call and after it: on a refusal it is as it was
+abbrev pub Unchanged : {A : Type 0} → Option Refusal → List A → List A → Type 0
+Unchanged answer before after = (r : Refusal) → answer ≡ some r → after ≡ before
+
+-- for each call, over the definitions that its contract equates answer and lent memory with
+pub record Promise-1 : Type 0 where
+  -- 1 to 6
+  pub validate : (plan : List ℤ) (rows cols lift : ℕ) → LowestOf (PlanRow plan rows cols lift) (ofValidity (validity (lowest (planRules plan rows cols lift))))
+  -- 1 to 6, 14; whichever witness is shown
+  pub test : (plan : List ℤ) (rows cols lift target : ℕ) (answer : GirthTest) → Answer plan rows cols lift target answer
+      → LowestOf (PlanRow plan rows cols lift or TargetRow target) (ofOutcome (answer .outcome))
+  -- 1 to 6, 16, 18, 19
+  pub check : (plan : List ℤ) (rows cols lift : ℕ) (word : List ℕ)
+      → LowestOf (PlanRow plan rows cols lift or WordRow (cols * lift) word or ErasureRow word) (ofSyndrome (syndromeOf plan rows cols lift word))
+  -- 1 to 6, 16, 18, 20
+  pub fill : (plan : List ℤ) (rows cols lift : ℕ) (word : List ℕ)
+      → let answer = ofFilling (fillAnswer plan rows cols lift word) in
+      LowestOf (PlanRow plan rows cols lift or WordRow (cols * lift) word or SolutionRow (tanner plan rows cols lift) word) answer
+      × Unchanged answer word (fillWord plan rows cols lift word)
+  -- 7, 8; the calls `array` and `cyclic`
+  pub supply : (family : Family) (order : ℕ) (table : List ℤ)
+      → let refusal = lowest (supplyRules order (length table)) in
+      let answer = ofSupplied (supplied refusal) in
+      LowestOf (SquareRow order (length table)) answer × Unchanged answer table (lent refusal (suppliedTable family order) table)
+  -- 3, 7 to 13, 15
+  pub build : (order lift : ℕ) (table : List ℤ) (mask : List ℕ) (plan : List ℤ)
+      → let refusal = lowest (buildRules order lift table mask (length plan)) in
+      let answer = ofBuilt (built refusal order (weight order mask)) in
+      LowestOf (LiftRow lift or SquareRow order (length table) or TableRow order lift table or (MaskRow order lift mask or PlaceRow order mask (length plan))) answer
+      × Unchanged answer plan (lent refusal (builtPlan order lift table mask) plan)
+  -- 1 to 6, 17
+  pub write : (plan : List ℤ) (rows cols lift : ℕ) (place : List ℕ)
+      → let refusal = lowest (writeRules plan rows cols lift place) in
+      let text = alistText plan rows cols lift in
+      let answer = ofWritten (written (length text) refusal) in
+      LowestOf (PlanRow plan rows cols lift or RoomRow text place) answer × Unchanged answer place (laid refusal text place)
+  -- 1 to 6, 21
+  pub compare : (plan : List ℤ) (rows cols lift : ℕ) (text : List ℕ)
+      → LowestOf (PlanRow plan rows cols lift or TokenRow text (numbersOf (alist plan rows cols lift)))
+      (ofComparison (comparison (lowest (compareRules plan rows cols lift text))))

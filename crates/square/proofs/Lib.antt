@@ -1,0 +1,10 @@
+pub mod Places
+pub mod Each
+pub mod Counts
+pub mod Totals
+pub mod Runs
+pub mod Signs
+pub mod Congruent
+pub mod Repeats
+pub mod Weights
+pub mod Tables

@@ -1,0 +1,4 @@
+pub mod Each
+pub mod Table
+pub mod Mask
+pub mod Inner

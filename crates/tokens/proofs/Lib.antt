@@ -1,0 +1,5 @@
+pub mod Computed
+pub mod Digits
+pub mod Runs
+pub mod ByPlace
+pub mod Reading

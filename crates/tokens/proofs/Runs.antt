@@ -1,0 +1,186 @@
+-- Laws of tokens: blank bytes, a token byte by byte, and a token that is a number. Assumes nothing.
+use Prim.Native.Nat.{ℕ, suc, _+_, _-_, _/_, _%_, _≤_, _<_, zero-le}
+use mathlib.Core.Path.{_≡_, refl, sym, ap, _∙_}
+use mathlib.Core.Logic.{_↔_}
+use mathlib.Core.Bool.{Bool, true, false, cond}
+use mathlib.Core.List.{List, [], _∷_, _++_}
+use native.Mathlib.Omega.{arith}
+use native.Mathlib.Numerals.{add-one}
+use lib.Dec.{eqb}
+use lib.ListN.{length, getD, take, drop, drop-of-length-le, length-drop}
+use lib.Seq.{drop-cons, take-suc, take-length, length-take-le}
+use borrow.Author.Tests.{eqb-true, eq-eqb, ne-eqb}
+use Rattle.graph.proofs.Decide.{by-bool, both-ways}
+use Rattle.tokens.specs.declared.Step.the-variants.{Next, Wrong}
+use Rattle.tokens.specs.Decimal.{digit, decimal}
+use Rattle.tokens.specs.Tokens.{blank, blanks, token, tokenAt, start, same}
+use Rattle.tokens.specs.Steps.{expectAt}
+use Rattle.tokens.proofs.Digits.{decimal-small, decimal-step, decimal-ends}
+
+pub not-9-10-13 : (b : ℕ) → (b ≡ 9 → ⊥) → (b ≡ 10 → ⊥) → (b ≡ 13 → ⊥) → eqb b 32 ≡ blank b
+unfolding blank
+not-9-10-13 b p q r = rw (ne-eqb b 9 p, ne-eqb b 10 q, ne-eqb b 13 r)
+
+-- where the next token starts
+module _ (text : List ℕ) (i : ℕ) where
+  pub start-end : length text ≤ i → start text i ≡ i
+  unfolding start blanks
+  start-end h = rw (drop-of-length-le text h) (omega arith)
+
+  pub start-here : i < length text → blank (getD text i 0) ≡ false → start text i ≡ i
+  unfolding start blanks
+  start-here h e = rw (drop-cons text i 0 h, e) (omega arith)
+
+  pub start-next : i < length text → blank (getD text i 0) ≡ true → start text (i + 1) ≡ start text i
+  unfolding start blanks
+  start-next h e = rw (drop-cons text i 0 h, e, add-one i) (omega arith)
+
+  -- the token at a place
+  pub token-end : length text ≤ i → tokenAt text i ≡ []
+  unfolding tokenAt token
+  token-end h = rw (drop-of-length-le text h)
+
+  pub token-stop : i < length text → blank (getD text i 0) ≡ true → tokenAt text i ≡ []
+  unfolding tokenAt token
+  token-stop h e = rw (drop-cons text i 0 h, e)
+
+  pub token-more : i < length text → blank (getD text i 0) ≡ false → tokenAt text i ≡ getD text i 0 ∷ tokenAt text (i + 1)
+  unfolding tokenAt token
+  token-more h e = rw (drop-cons text i 0 h, e, add-one i)
+
+blanks-le : (xs : List ℕ) → blanks xs ≤ length xs
+unfolding blanks
+blanks-le [] = zero-le
+blanks-le (b ∷ bs) = go (blank b) (blanks-le bs)
+  where
+    go : (t : Bool) → blanks bs ≤ length bs → cond t (suc (blanks bs)) 0 ≤ suc (length bs)
+    go true h = omega arith
+    go false h = omega arith
+
+pub start-le : (text : List ℕ) (at : ℕ) → at ≤ length text → start text at ≤ length text
+unfolding start
+start-le text at h = omega (arith, blanks-le (drop at text), length-drop at text)
+
+token-le : (xs : List ℕ) → length (token xs) ≤ length xs
+unfolding token
+token-le [] = zero-le
+token-le (b ∷ bs) = go (blank b) (token-le bs)
+  where
+    go : (t : Bool) → length (token bs) ≤ length bs → length (cond t [] (b ∷ token bs)) ≤ suc (length bs)
+    go true h = zero-le
+    go false h = omega arith
+
+pub tokenAt-le : (text : List ℕ) (s : ℕ) → s ≤ length text → s + length (tokenAt text s) ≤ length text
+unfolding tokenAt
+tokenAt-le text s h = omega (arith, token-le (drop s text), length-drop s text)
+
+take-token : (xs : List ℕ) → take (length (token xs)) xs ≡ token xs
+unfolding token
+take-token [] = refl
+take-token (b ∷ bs) = go (blank b) (take-token bs)
+  where
+    go : (t : Bool) → take (length (token bs)) bs ≡ token bs → take (length (cond t [] (b ∷ token bs))) (b ∷ bs) ≡ cond t [] (b ∷ token bs)
+    go true h = refl
+    go false h = ap (λ (l : List ℕ). b ∷ l) h
+
+-- a token is the part of the text from its first byte to its end
+pub token-part : (text : List ℕ) (s e : ℕ) → e ≡ s + length (tokenAt text s) → take (e - s) (drop s text) ≡ tokenAt text s
+unfolding tokenAt
+token-part text s e p = let q : e - s ≡ length (token (drop s text)) = omega arith in ap (λ (n : ℕ). take n (drop s text)) q ∙ take-token (drop s text)
+
+-- two runs of bytes are the same
+pub same-exactly : (xs ys : List ℕ) → (same xs ys ≡ true) ↔ (xs ≡ ys)
+unfolding same
+same-exactly [] [] = (λ e. refl, λ e. refl)
+same-exactly [] (y ∷ ys) = (λ e. both-ways e refl, λ e. absurd (let z : _≡_ {A = ℕ} 0 1 = cc in omega arith))
+same-exactly (x ∷ xs) [] = (λ e. both-ways e refl, λ e. absurd (let z : _≡_ {A = ℕ} 0 1 = cc in omega arith))
+same-exactly (x ∷ xs) (y ∷ ys) = (
+  λ e. by-bool (eqb x y)
+      (λ t. let p = eqb-true x y t in let q = same-exactly xs ys .0 (rw t at e) in cc)
+      (λ t. both-ways (rw t at e) refl),
+  λ e. let p : x ≡ y = cc in let q : xs ≡ ys = cc in rw (eq-eqb x y p) (same-exactly xs ys .1 q),
+)
+
+-- the last byte, and what stands before it
+same-nil : (ys : List ℕ) (y : ℕ) → same [] (ys ++ y ∷ []) ≡ false
+unfolding same
+same-nil [] y = refl
+same-nil (b ∷ ys) y = refl
+
+same-nil′ : (xs : List ℕ) (x : ℕ) → same (xs ++ x ∷ []) [] ≡ false
+unfolding same
+same-nil′ [] x = refl
+same-nil′ (a ∷ xs) x = refl
+
+cond-same : (t : Bool) → cond t false false ≡ false
+cond-same true = refl
+cond-same false = refl
+
+cond-swap : (s t b : Bool) → cond s (cond t b false) false ≡ cond t (cond s b false) false
+cond-swap true true b = refl
+cond-swap true false b = refl
+cond-swap false true b = refl
+cond-swap false false b = refl
+
+pub same-snoc : (xs ys : List ℕ) (x y : ℕ) → same (xs ++ x ∷ []) (ys ++ y ∷ []) ≡ cond (eqb x y) (same xs ys) false
+unfolding same
+same-snoc [] [] x y = refl
+same-snoc [] (b ∷ ys) x y = rw (same-nil ys y) (cond-same (eqb x b) ∙ sym (cond-same (eqb x y)))
+same-snoc (a ∷ xs) [] x y = rw (same-nil′ xs x) (cond-same (eqb a y) ∙ sym (cond-same (eqb x y)))
+same-snoc (a ∷ xs) (b ∷ ys) x y = rw (same-snoc xs ys x y) (cond-swap (eqb a b) (eqb x y) (same xs ys))
+
+same-empty : (xs : List ℕ) → same xs [] ≡ eqb (length xs) 0
+unfolding same
+same-empty [] = refl
+same-empty (x ∷ xs) = sym (ne-eqb (suc (length xs)) 0 (omega arith))
+
+module _ (w : List ℕ) (n : ℕ) where
+  pub number-none : length w ≡ 0 → false ≡ same w (decimal n)
+  number-none e = let q : w ≡ [] = nil w e in rw (q, decimal-ends n .1) (sym (same-nil (decimal-ends n .0) (digit (n % 10))))
+    where
+      nil : (l : List ℕ) → length l ≡ 0 → l ≡ []
+      nil [] h = refl
+      nil (x ∷ l) h = absurd (omega arith)
+
+  split-last : (length w ≡ 0 → ⊥) → w ≡ take (length w - 1) w ++ getD w (length w - 1) 0 ∷ []
+  split-last h =
+      let e : length w ≡ suc (length w - 1) = omega arith in
+      sym (take-length w) ∙ ap (λ (k : ℕ). take k w) e ∙ take-suc w (length w - 1) 0 (omega arith)
+
+  -- by the last byte
+  by-last : (length w ≡ 0 → ⊥) → (hs : List ℕ) → decimal n ≡ hs ++ digit (n % 10) ∷ []
+      → same w (decimal n) ≡ cond (eqb (getD w (length w - 1) 0) (digit (n % 10))) (same (take (length w - 1) w) hs) false
+  by-last h hs e =
+      ap (λ (l : List ℕ). same l (decimal n)) (split-last h) ∙ ap (same (take (length w - 1) w ++ getD w (length w - 1) 0 ∷ [])) e
+      ∙ same-snoc (take (length w - 1) w) hs (getD w (length w - 1) 0) (digit (n % 10))
+
+  pub number-wrong : (length w ≡ 0 → ⊥) → (getD w (length w - 1) 0 ≡ digit (n % 10) → ⊥) → false ≡ same w (decimal n)
+  number-wrong h ne = sym (by-last h (decimal-ends n .0) (decimal-ends n .1) ∙ ap (λ (t : Bool). cond t (same (take (length w - 1) w) (decimal-ends n .0)) false) (ne-eqb _ _ ne))
+
+  pub number-one : (length w ≡ 0 → ⊥) → getD w (length w - 1) 0 ≡ digit (n % 10) → n < 10 → eqb (length w - 1) 0 ≡ same w (decimal n)
+  number-one h e s =
+      let m : n ≡ n % 10 = omega arith in
+      let d : decimal n ≡ [] ++ digit (n % 10) ∷ [] = decimal-small n s ∙ ap (λ (k : ℕ). digit k ∷ []) m in
+      sym (by-last h [] d ∙ ap (λ (t : Bool). cond t (same (take (length w - 1) w) []) false) (eq-eqb _ _ e)
+      ∙ same-empty (take (length w - 1) w) ∙ ap (λ (k : ℕ). eqb k 0) (length-take-le (length w - 1) w (omega arith)))
+
+  pub number-more : (length w ≡ 0 → ⊥) → getD w (length w - 1) 0 ≡ digit (n % 10) → 10 ≤ n → same (take (length w - 1) w) (decimal (n / 10)) ≡ same w (decimal n)
+  number-more h e s = sym (by-last h (decimal (n / 10)) (decimal-step n s) ∙ ap (λ (t : Bool). cond t (same (take (length w - 1) w) (decimal (n / 10))) false) (eq-eqb _ _ e))
+
+-- what the next token is, from its first byte s, its end e and the comparison r
+module _ (text : List ℕ) (at n s e : ℕ) (r : Bool) (p : s ≡ start text at) (q : e ≡ s + length (tokenAt text s)) (c : r ≡ same (take (e - s) (drop s text)) (decimal n)) where
+  told : same (tokenAt text (start text at)) (decimal n) ≡ r
+  told = ap (λ (k : ℕ). same (tokenAt text k) (decimal n)) (sym p) ∙ ap (λ (w : List ℕ). same w (decimal n)) (sym (token-part text s e q)) ∙ sym c
+
+  pub expect-right : r ≡ true → Next (record { at = e }) ≡ expectAt text at n
+  unfolding expectAt
+  expect-right h = rw (told, h) (ap (λ (k : ℕ). Next (record { at = k })) (q ∙ ap (λ (k : ℕ). k + length (tokenAt text k)) p))
+
+  pub expect-wrong : r ≡ false → Wrong s ≡ expectAt text at n
+  unfolding expectAt
+  expect-wrong h = rw (told, h) (ap (λ (k : ℕ). Wrong k) p)
+
+pub token-in : (text : List ℕ) (at s e : ℕ) → s ≡ start text at → e ≡ s + length (tokenAt text s) → at ≤ length text → e ≤ length text
+token-in text at s e p q h =
+    let b : s ≤ length text = omega (arith, start-le text at h) in
+    omega (arith, tokenAt-le text s b)

@@ -1,0 +1,106 @@
+// Numbers in decimal, and the tokens of a text (document 01, "alist text").
+ghost use mathlib.Core.Path.{_≡_};
+ghost use Prim.Native.Nat.{_+_, _≤_};
+ghost use lib.ListN.{length};
+ghost use Rattle.tokens.specs.Decimal.{decimal};
+ghost use Rattle.tokens.specs.Tokens.{blank, start, tokenAt, same};
+ghost use Rattle.tokens.specs.Steps.{expectAt};
+
+// The place that reading has come to.
+pub struct Cursor {
+    pub at: usize,
+}
+
+// The next token was right, and reading goes on behind it; or it is wrong or missing, at this place.
+pub enum Step {
+    Next(Cursor),
+    Wrong(usize),
+}
+
+// Tab, line feed, carriage return or space.
+fn is_blank(b: u8) -> bool
+    ensures { λ r. ⌜ r ≡ blank b ⌝ }
+{
+    if b == 9 {
+        return true;
+    }
+    if b == 10 {
+        return true;
+    }
+    if b == 13 {
+        return true;
+    }
+    b == 32
+}
+
+// The first byte of the next token, or the text's length.
+pub fn skip(text: &[u8], at: usize) -> usize
+    ensures { λ r. ⌜ r ≡ start (now (text .entry)) at ⌝ }
+{
+    let mut i = at;
+    while i < text.len() {
+        if is_blank(text[i]) {
+            i += 1;
+        } else {
+            return i;
+        }
+    }
+    i
+}
+
+// The end of the token that begins at a place.
+pub fn token_end(text: &[u8], at: usize) -> usize
+    ensures { λ r. ⌜ r ≡ at + length (tokenAt (now (text .entry)) at) ⌝ }
+{
+    let mut i = at;
+    while i < text.len() {
+        if is_blank(text[i]) {
+            return i;
+        }
+        i += 1;
+    }
+    i
+}
+
+// Whether bytes are a number in decimal: its last digit, and before it the digits of its tenth.
+fn is_number(word: &[u8], n: usize) -> bool
+    ensures { λ r. ⌜ r ≡ same (now (word .entry)) (decimal n) ⌝ }
+{
+    let len = word.len();
+    if len == 0 {
+        return false;
+    }
+    let last = len - 1;
+    if word[last] != 48 + ((n % 10) as u8) {
+        return false;
+    }
+    if n < 10 {
+        return last == 0;
+    }
+    is_number(&word[..last], n / 10)
+}
+
+// Holds the next token to a number.
+pub fn expect_number(text: &[u8], c: Cursor, n: usize) -> Step
+    requires { ⌜ c .at ≤ length (now text) ⌝ }
+    ensures { λ r. ⌜ r ≡ expectAt (now (text .entry)) (c .at) n ⌝ }
+{
+    let at = c.at;
+    let s = skip(text, at);
+    let e = token_end(text, s);
+    if is_number(&text[s..e], n) {
+        Step::Next(Cursor { at: e })
+    } else {
+        Step::Wrong(s)
+    }
+}
+
+// The same from any place: past the text's end nothing is right.
+pub fn expect_at(text: &[u8], at: usize, n: usize) -> Step
+    ensures { λ r. ⌜ r ≡ expectAt (now (text .entry)) at n ⌝ }
+{
+    if text.len() < at {
+        return Step::Wrong(at);
+    }
+    expect_number(text, Cursor { at }, n)
+}

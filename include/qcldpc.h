@@ -1,0 +1,76 @@
+/* Quasi-cyclic LDPC plans: the nine functions of libqcldpc.a (`rt staticlib qcldpc`), for C99 on x86-64.
+ *
+ * A plan is rows x cols numbers, row by row: -1 is a zero (empty) block, e from 0 to lift - 1 the identity with its rows
+ * shifted right by e. A word is cols x lift bytes: 0 or 1 for a known bit, 2 for an erasure. Bit z of column j is number
+ * j * lift + z, check y of row i is number i * lift + y; all numbers and places count from 0.
+ *
+ * Every function returns 0 for a result, or the number of a refusal (README.md, "Refusals"): the lowest that applies, and
+ * then nothing lent is changed but the refusal's values, which stand in `out` from out[0] on:
+ *     6, 9, 18, 19  the first place        10  i, k, r, t        17  the length needed        21  the place in the text
+ * The other refusals have no values. Places of `out` that are not named for an answer keep what was in them.
+ * `out` needs QCLDPC_OUT places; with fewer, every function returns QCLDPC_NO_ROOM and changes nothing.
+ *
+ * Nothing is asked of numbers and bytes. Each pointer points to as many elements as the length behind it says (none are
+ * read or written where that is 0), and memory that a function writes overlaps no other memory lent in the same call.
+ */
+#ifndef QCLDPC_H
+#define QCLDPC_H
+
+#include <stddef.h>
+#include <stdint.h>
+
+#ifdef __cplusplus
+extern "C" {
+#endif
+
+#define QCLDPC_OUT 32
+#define QCLDPC_NO_ROOM UINT64_MAX
+
+/* Whether a plan may be used. Refusals 1 to 6. */
+uint64_t qcldpc_check(const int16_t *plan, size_t plan_len, uint64_t rows, uint64_t cols, uint64_t lift,
+                      uint64_t *out, size_t out_len);
+
+/* The girth test: whether no simple cycle has fewer edges than the target (6, 8, 10 or 12). Refusals 1 to 6, 14.
+ * out[0] is 0 where the plan passes. Else it is n, from 2 to 5, of a cycle of 2n edges: out[1 + k] is its check k and
+ * out[9 + k] its bit k; check k joins bit k, bit k joins check k + 1, the last bit joins check 0. All five places of
+ * checks and of bits are written, those not used with 0. */
+uint64_t qcldpc_girth(const int16_t *plan, size_t plan_len, uint64_t rows, uint64_t cols, uint64_t lift,
+                      uint64_t target, uint64_t *out, size_t out_len);
+
+/* The syndrome check of a word without erasures. Refusals 1 to 6, 16, 18, 19.
+ * out[0] is 0 where every check is even, else 1, and out[1] is the lowest odd check. */
+uint64_t qcldpc_syndrome(const int16_t *plan, size_t plan_len, uint64_t rows, uint64_t cols, uint64_t lift,
+                         const uint8_t *word, size_t word_len, uint64_t *out, size_t out_len);
+
+/* The decoder: fills, in place, every erasure outside the largest stopping set. Refusals 1 to 6, 16, 18, 20.
+ * out[0] erasures were filled, out[1] are left. */
+uint64_t qcldpc_fill(const int16_t *plan, size_t plan_len, uint64_t rows, uint64_t cols, uint64_t lift,
+                     uint8_t *word, size_t word_len, uint64_t *out, size_t out_len);
+
+/* The array table of an order from 4 to 7, in order x order numbers. Refusals 7, 8. */
+uint64_t qcldpc_array_table(uint64_t order, int16_t *table, size_t table_len, uint64_t *out, size_t out_len);
+
+/* The cyclic table of an order from 4 to 7, in order x order numbers. Refusals 7, 8. */
+uint64_t qcldpc_cyclic_table(uint64_t order, int16_t *table, size_t table_len, uint64_t *out, size_t out_len);
+
+/* The plan of a table and a mask of order x order bytes, 0 or 1, with L ones in each row and column (L from 4): it has
+ * 3 * L * order rows and order * L * L columns, and `plan` exactly these places. Refusals 3, 7 to 13, 15.
+ * out[0] is the number of rows, out[1] of columns. */
+uint64_t qcldpc_build(uint64_t order, uint64_t lift, const int16_t *table, size_t table_len, const uint8_t *mask,
+                      size_t mask_len, int16_t *plan, size_t plan_len, uint64_t *out, size_t out_len);
+
+/* Writes the alist text of a plan; bytes past it stay. Refusals 1 to 6, 17 (so an empty place asks for the length).
+ * out[0] is the text's length. */
+uint64_t qcldpc_alist_write(const int16_t *plan, size_t plan_len, uint64_t rows, uint64_t cols, uint64_t lift,
+                            uint8_t *text, size_t text_len, uint64_t *out, size_t out_len);
+
+/* Compares a text with the alist of a plan, token by token. Refusals 1 to 6, 21: the first byte of the first wrong or
+ * extra token, or the text's length where it ends early. */
+uint64_t qcldpc_alist_compare(const int16_t *plan, size_t plan_len, uint64_t rows, uint64_t cols, uint64_t lift,
+                              const uint8_t *text, size_t text_len, uint64_t *out, size_t out_len);
+
+#ifdef __cplusplus
+}
+#endif
+
+#endif
