@@ -6,12 +6,13 @@ use mathlib.Core.Bool.{Bool, true, false, cond}
 use mathlib.Core.List.{List, [], _∷_, _++_, append-nil}
 use mathlib.Core.Option.{Option, none, some}
 use native.Mathlib.Omega.{arith}
-use native.Mathlib.Nat.{suc-mul, zero-mul, zero-add}
+use native.Mathlib.Nat.{suc-mul, zero-mul}
 use borrow.Author.Tests.{eq-eqb, ne-eqb}
 use lib.Dec.{eqb, eqb·suc-suc}
 use lib.ListN.{length}
 use Rattle.graph.specs.Count.{range, below, select, one, count}
-use Rattle.graph.proofs.Count.{range-append, select-append}
+use Rattle.graph.proofs.Count.{range-append, select-append, below-last}
+use Rattle.exponent.specs.Neighbours.{put, gather}
 
 -- the number that a block has, if any
 abbrev pub picked : Option ℕ → Bool
@@ -21,15 +22,6 @@ picked (some x) = true
 abbrev pub hit : Option ℕ → ℕ → Bool
 hit none z = false
 hit (some x) z = eqb x z
-
-abbrev put : Option ℕ → ℕ → List ℕ → List ℕ
-put none base l = l
-put (some x) base l = (base + x) ∷ l
-
--- the numbers that the blocks of a list have, in order
-unfoldable pub gather : ℕ → (ℕ → Option ℕ) → List ℕ → List ℕ
-gather lift pick [] = []
-gather lift pick (j ∷ l) = put (pick j) (j * lift) (gather lift pick l)
 
 pub length-gather : (lift : ℕ) (pick : ℕ → Option ℕ) (l : List ℕ) → length (gather lift pick l) ≡ count (λ j. picked (pick j)) l
 unfolding gather count
@@ -98,10 +90,6 @@ module _ (f : ℕ → Bool) where
         ap (λ (k : ℕ). select f (range k (n * lift))) (sym (zero-mul lift)) ∙ select-blocks 0 n (λ j h k. p j (omega arith))
 
 -- What more blocks add
-
-pub below-last : (n : ℕ) → below (n + 1) ≡ below n ++ n ∷ []
-unfolding range
-below-last n = range-append 0 n 1 ∙ ap (λ (k : ℕ). below n ++ k ∷ []) (zero-add n)
 
 module _ (lift : ℕ) (pick : ℕ → Option ℕ) where
   pub gather-append : (p q : List ℕ) → gather lift pick (p ++ q) ≡ gather lift pick p ++ gather lift pick q

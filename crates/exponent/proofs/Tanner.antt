@@ -21,8 +21,9 @@ use Rattle.exponent.specs.declared.block.Block.{Block}
 use Rattle.exponent.specs.declared.block.Block.the-variants.{Zero, Shift, Invalid}
 use Rattle.exponent.specs.Plan.{shiftBlock, blockOf, entryAt, blockAt, filled}
 use Rattle.exponent.specs.Tanner.{edge, tanner, columnWeight, rowWeight, ThreeBlocks}
+use Rattle.exponent.specs.Neighbours.{gather, bitIn, checkIn}
 use Rattle.exponent.proofs.Numbers.{block-of, place-of, undo}
-use Rattle.exponent.proofs.Blocks.{picked, hit, gather, length-gather, Picks, select-gather}
+use Rattle.exponent.proofs.Blocks.{picked, hit, length-gather, Picks, select-gather}
 
 -- A shift lies below the lift, whatever the plan holds.
 
@@ -40,16 +41,6 @@ unfolding blockAt entryAt
 shift-low plan cols lift i j e q = block-shift lift (getD plan (i * cols + j) (pos 0)) e q
 
 -- ONE BLOCK. Its bit for check y, and its check for bit z: a bijection.
-
-abbrev pub bitIn : ℕ → ℕ → Block → Option ℕ
-bitIn lift y Zero = none
-bitIn lift y (Shift e) = some ((y + e) % lift)
-bitIn lift y Invalid = none
-
-abbrev pub checkIn : ℕ → ℕ → Block → Option ℕ
-checkIn lift z Zero = none
-checkIn lift z (Shift e) = some ((z + (lift - e)) % lift)
-checkIn lift z Invalid = none
 
 module _ (lift e y z : ℕ) (low : e < lift) (y-low : y < lift) (z-low : z < lift) where
   -- check y joins bit (y + e) mod lift alone, and bit z check (z − e) mod lift alone

@@ -45,6 +45,10 @@ range-append s (suc m) n =
     ap (range s) (let e : suc m + n ≡ suc (m + n) = omega arith in e)
     ∙ ap (λ (l : List ℕ). s ∷ l) (range-append (suc s) m n ∙ ap (λ (k : ℕ). range (suc s) m ++ range k n) (let e : suc s + m ≡ s + suc m = omega arith in e))
 
+pub below-last : (n : ℕ) → below (n + 1) ≡ below n ++ n ∷ []
+unfolding range
+below-last n = range-append 0 n 1 ∙ ap (λ (k : ℕ). below n ++ k ∷ []) (zero-add n)
+
 -- Selections
 
 module _ (f : ℕ → Bool) where
@@ -126,6 +130,10 @@ pub count-append : (f : ℕ → Bool) (p q : List ℕ) → count f (p ++ q) ≡ 
 unfolding count
 count-append f [] q = omega arith
 count-append f (x ∷ p) q = omega (arith, count-append f p q)
+
+pub count-last : (f : ℕ → Bool) (n : ℕ) → count f (below (n + 1)) ≡ count f (below n) + one (f n)
+unfolding count
+count-last f n = ap (count f) (below-last n) ∙ omega (arith, count-append f (below n) (n ∷ []))
 
 -- a member that passes, and back
 pub count-mem : (f : ℕ → Bool) (x : ℕ) (l : List ℕ) → Mem x l → f x ≡ true → 1 ≤ count f l

@@ -21,7 +21,7 @@ use Rattle.exponent.specs.Plan.{filled}
 use Rattle.exponent.specs.Limits.{WellFormed}
 use Rattle.exponent.specs.Tanner.{tanner, columnWeight, rowWeight}
 use Rattle.exponent.specs.Index.{NextFrom}
-use Rattle.exponent.proofs.Blocks.{gather}
+use Rattle.exponent.specs.Neighbours.{gather}
 use Rattle.exponent.proofs.Skips.{place-small}
 use Rattle.exponent.proofs.Tanner.{shift-low, bits-of-check, checks-of-bit, check-degree, bit-degree}
 use Rattle.lines.specs.declared.sides.Side.{Side}

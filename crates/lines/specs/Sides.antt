@@ -15,8 +15,7 @@ use Rattle.exponent.specs.Plan.{blockAt, filled}
 use Rattle.exponent.specs.Limits.{WellFormed}
 use Rattle.exponent.specs.Tanner.{tanner, columnWeight, rowWeight}
 use Rattle.exponent.specs.Index.{DownIndex, AlongIndex}
-use Rattle.exponent.proofs.Blocks.{gather}
-use Rattle.exponent.proofs.Tanner.{bitIn, checkIn}
+use Rattle.exponent.specs.Neighbours.{gather, bitIn, checkIn}
 use Rattle.lines.specs.declared.sides.Side.{Side}
 use Rattle.lines.specs.declared.sides.Side.the-variants.{Bits, Checks}
 

@@ -2,5 +2,4 @@ pub mod Unmarking
 pub mod Waiting
 pub mod Steps
 pub mod Ends
-pub mod Meaning
 pub mod Rules

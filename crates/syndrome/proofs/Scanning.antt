@@ -21,8 +21,9 @@ use Rattle.exponent.specs.declared.index.Shape.{Shape}
 use Rattle.exponent.specs.Plan.{blockAt, filled}
 use Rattle.exponent.specs.Index.{NextFrom, filledAt}
 use Rattle.exponent.specs.Tanner.{tanner}
-use Rattle.exponent.proofs.Blocks.{gather, gather-last, gather-skip}
-use Rattle.exponent.proofs.Tanner.{bitIn, bits-of-check}
+use Rattle.exponent.specs.Neighbours.{gather, bitIn}
+use Rattle.exponent.proofs.Blocks.{gather-last, gather-skip}
+use Rattle.exponent.proofs.Tanner.{bits-of-check}
 use Rattle.syndrome.specs.declared.scan.Scan.{Scan}
 use Rattle.syndrome.specs.Scan.{Scanned, AddedBit, AddedBlock}
 

@@ -1,15 +1,11 @@
--- Laws of a word's bytes: which of them are refused, which are erasures, and how many. Assumes nothing.
-use Prim.Native.Nat.{ℕ, _+_, _≤_, _<_}
-use mathlib.Core.Path.{_≡_, ap, _∙_}
+-- Laws of a word's bytes: which of them are refused, which are erasures. Assumes nothing.
+use Prim.Native.Nat.{ℕ, _≤_, _<_}
+use mathlib.Core.Path.{_≡_, ap}
 use mathlib.Core.Logic.{_↔_}
-use mathlib.Core.Bool.{Bool, true, false}
-use mathlib.Core.List.{[], _∷_}
+use mathlib.Core.Bool.{true, false}
 use native.Mathlib.Omega.{arith}
 use borrow.Author.Tests.{lt-ltb, le-ltb, ne-eqb}
-use Rattle.graph.specs.Count.{below, one, count}
-use Rattle.graph.proofs.Count.{count-append}
 use Rattle.graph.proofs.Decide.{both-ways, by-le}
-use Rattle.exponent.proofs.Blocks.{below-last}
 use Rattle.syndrome.specs.declared.byte.Symbol.the-variants.{Known, Erased, Other}
 use Rattle.syndrome.specs.Word.{symbolOf, sought, isErasure, isOther}
 
@@ -54,8 +50,3 @@ module _ (x : ℕ) where
         (λ h. both-ways e (ap (sought true) (symbol-other h))),
     λ e. ap (sought true) (symbol-erased e),
   )
-
--- one number more
-pub count-last : (f : ℕ → Bool) (n : ℕ) → count f (below (n + 1)) ≡ count f (below n) + one (f n)
-unfolding count
-count-last f n = ap (count f) (below-last n) ∙ omega (arith, count-append f (below n) (n ∷ []))

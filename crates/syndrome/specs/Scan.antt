@@ -13,8 +13,7 @@ use Rattle.exponent.specs.declared.block.Block.the-variants.{Shift}
 use Rattle.exponent.specs.declared.index.Shape.{Shape}
 use Rattle.exponent.specs.Limits.{WellFormed}
 use Rattle.exponent.specs.Index.{AlongIndex}
-use Rattle.exponent.proofs.Blocks.{gather}
-use Rattle.exponent.proofs.Tanner.{bitIn}
+use Rattle.exponent.specs.Neighbours.{gather, bitIn}
 use Rattle.syndrome.specs.declared.scan.Scan.{Scan}
 
 -- how many of the bits are erasures, the sum of the bytes, and an erasure, if there is one

@@ -7,7 +7,7 @@ use native.Mathlib.Omega.{arith}
 use borrow.Author.Needs.{needs}
 use Rattle.graph.specs.Count.{range}
 use Rattle.exponent.specs.Index.{NextFrom, filledAt}
-use Rattle.exponent.proofs.Blocks.{gather}
+use Rattle.exponent.specs.Neighbours.{gather}
 use Rattle.exponent.proofs.Numbers.{block-low}
 use Rattle.exponent.proofs.Skips.{place-low}
 use Rattle.exponent.proofs.Tanner.{shift-low}
