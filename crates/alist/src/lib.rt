@@ -10,8 +10,8 @@ ghost use Rattle.alist.specs.Calls.{alistText, writeRules, written, laid
 ghost use Rattle.alist.specs.Text.{numbersOf};
 
 pub mod put; // put.rt: bytes, numbers, lines and the whole text, written where there is room
-pub mod reader; // reader.rt: a lent text with the place that reading has come to
-pub mod verify; // verify.rt: a text against the lines
+mod reader; // reader.rt: a lent text with the place that reading has come to
+mod verify; // verify.rt: a text against the lines
 
 use exponent::Validity;
 use exponent::index::Shape;

@@ -1,4 +1,4 @@
-pub mod Computed
+pub mod Cases
 pub mod Found
 pub mod Link
 pub mod OneRow

@@ -5,8 +5,8 @@ ghost use Rattle.exponent.specs.Limits.{WellFormed};
 ghost use Rattle.girth.specs.Search.{blocksOf, shortest};
 ghost use Rattle.girth.specs.Test.{Answer, allowed, without-witness};
 
-pub mod search; // search.rt: closed walks from a bit, by two functions that call each other
-pub mod trail; // trail.rt: the checks and bits of a closed walk
+mod search; // search.rt: closed walks from a bit, by two functions that call each other
+mod trail; // trail.rt: the checks and bits of a closed walk
 
 use exponent::Validity;
 use exponent::index;

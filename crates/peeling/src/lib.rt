@@ -6,8 +6,8 @@ ghost use Rattle.exponent.specs.Limits.{WellFormed};
 ghost use Rattle.peeling.specs.Fill.{filling, filledOr, fillAnswer, fillWord};
 ghost use Rattle.peeling.specs.Work.{graphOf};
 
-pub mod work; // work.rt: filling forced erasures, marked until the end
-pub mod marks; // marks.rt: turning marked bytes back or into bits
+mod work; // work.rt: filling forced erasures, marked until the end
+mod marks; // marks.rt: turning marked bytes back or into bits
 
 use exponent::Validity;
 use exponent::index;

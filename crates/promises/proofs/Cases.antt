@@ -25,7 +25,7 @@ use Rattle.girth.specs.declared.GirthTest.{GirthTest}
 use Rattle.girth.specs.declared.Outcome.the-variants.{Passed, Failed, Refused}
 use Rattle.girth.specs.Test.{testRules, Answer, refused, passed, failed}
 use Rattle.girth.specs.Search.{model}
-use Rattle.girth.proofs.Computed.{computed}
+use Rattle.girth.proofs.Cases.{computed}
 use Rattle.girth.proofs.Model.{model-answer}
 use Rattle.girth.proofs.OneRow.{one-row-passes}
 use Rattle.syndrome.specs.declared.Syndrome.the-variants.{Odd}

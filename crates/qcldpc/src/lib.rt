@@ -22,7 +22,7 @@ ghost use Rattle.table.specs.declared.Supplied.{Supplied};
 ghost use Rattle.table.specs.Build.{lent, supplyRules, supplied, buildRules, builtPlan, built};
 ghost use Rattle.qcldpc.specs.Door.{Replies, Leaves, checkReply, girthReply, fillReply, syndromeReply, builtReply, suppliedReply, writtenReply, comparedReply};
 
-pub mod reply; // reply.rt: an answer as a number and values
+mod reply; // reply.rt: an answer as a number and values
 
 // The places that `out` is to have.
 const PLACES: usize = 32;
