@@ -18,10 +18,10 @@ use Rattle.tokens.specs.Tokens.{mismatch}
 use Rattle.lines.specs.Alist.{alist}
 use Rattle.alist.specs.declared.Comparison.the-variants as answer
 use Rattle.alist.specs.declared.Comparison.the-variants.{Agrees}
-use Rattle.alist.specs.declared.verify.Verdict.the-variants.{Same, Differs}
-use Rattle.alist.specs.Text.{numbersOf}
+use Rattle.comparer.specs.declared.Verdict.the-variants.{Same, Differs}
+use Rattle.lines.specs.Text.{numbersOf}
 use Rattle.alist.specs.Calls.{alistText, roomRules, writeRules, tokenRules, compareRules, comparison}
-use Rattle.alist.specs.Steps.{verdict}
+use Rattle.comparer.specs.Verdict.{verdict}
 
 -- computed, whatever the plan and the text are
 pub write-rise : (plan : List ℤ) (rows cols lift : ℕ) (place : List ℕ) → rising (writeRules plan rows cols lift place) ≡ true

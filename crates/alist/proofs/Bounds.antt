@@ -13,18 +13,19 @@ use Rattle.graph.proofs.Decide.{by-le}
 use Rattle.graph.proofs.Lists.{Mem, mem-either, each-image}
 use Rattle.graph.proofs.Count.{mem-select, length-map-below, length-range}
 use Rattle.graph.proofs.Neighbours.{mem-below}
-use Rattle.exponent.specs.declared.index.Shape.{Shape}
+use Rattle.exponent.specs.declared.Shape.{Shape}
 use Rattle.exponent.specs.Limits.{WellFormed}
 use Rattle.lines.specs.declared.Layout.{Layout}
 use Rattle.lines.specs.declared.sides.Side.{Side}
 use Rattle.lines.specs.declared.sides.Side.the-variants.{Bits, Checks}
-use Rattle.tokens.specs.Decimal.{decimal}
+use Rattle.decimal.specs.Decimal.{decimal}
 use Rattle.lines.specs.Alist.{nodes, neighbours, degrees, greatest, fill, lists, linesOf}
-use Rattle.alist.specs.Text.{item, lineFrom, textOf, numbersOf}
-use Rattle.lines.specs.Sides.{graph, blocks, nodeCount}
+use Rattle.lines.specs.Text.{item, lineFrom, textOf, numbersOf}
+use Rattle.exponent.specs.Tanner.{graphOf}
+use Rattle.lines.specs.Sides.{blocks, nodeCount}
 use Rattle.lines.specs.Lines.{Measured}
 use Rattle.alist.specs.Steps.{mostBytes}
-use Rattle.tokens.proofs.Digits.{length-small, length-below, length-four}
+use Rattle.decimal.proofs.Digits.{length-small, length-below, length-four}
 use Rattle.lines.proofs.Lanes.{small, nodes-of, blocks-few, weight-le, degree-weight}
 use Rattle.lines.proofs.Weights.{most-few}
 
@@ -98,9 +99,9 @@ pair-low a b p q x (inr (inr m)) = absurd m
 
 module _ (plan : List ℤ) (s : Shape) (w : WellFormed plan (s .rows) (s .cols) (s .lift)) where
   abbrev G : Bipartite
-  G = graph plan s
+  G = graphOf plan s
 
-  nodes-small : (side : Side) → nodes (graph plan s) side ≤ 786432
+  nodes-small : (side : Side) → nodes (graphOf plan s) side ≤ 786432
   nodes-small side = omega (arith, nodes-of plan s side, by side)
     where
       by : (side : Side) → nodeCount s side ≤ 786432
@@ -110,27 +111,27 @@ module _ (plan : List ℤ) (s : Shape) (w : WellFormed plan (s .rows) (s .cols) 
   few-blocks : (side : Side) → blocks s side ≤ 512
   few-blocks side = blocks-few s side (small plan s w)
 
-  neighbour-low : (side : Side) (x y : ℕ) → Mem y (neighbours (graph plan s) side x) → suc y ≤ 786432
+  neighbour-low : (side : Side) (x y : ℕ) → Mem y (neighbours (graphOf plan s) side x) → suc y ≤ 786432
   unfolding bitsOf checksOf
   neighbour-low Bits x y m = omega (arith, mem-below y (nodes G Checks) (mem-select (λ c. G .joins c x) y (below (nodes G Checks)) m .0), nodes-small Checks)
   neighbour-low Checks x y m = omega (arith, mem-below y (nodes G Bits) (mem-select (G .joins x) y (below (nodes G Bits)) m .0), nodes-small Bits)
 
-  degrees-low : (side : Side) → Low (degrees (graph plan s) side)
+  degrees-low : (side : Side) → Low (degrees (graphOf plan s) side)
   unfolding degrees
   degrees-low side =
       each-image (λ x. length (neighbours G side x)) (λ n. n ≤ 786432) (below (nodes G side))
       (λ x m. omega (arith, degree-weight plan s w side x, weight-le plan s side (x / s .lift), few-blocks side))
 
-  lists-low : (side : Side) (line : List ℕ) → Mem line (lists (graph plan s) side) → Low line
+  lists-low : (side : Side) (line : List ℕ) → Mem line (lists (graphOf plan s) side) → Low line
   unfolding lists
   lists-low side =
       each-image (λ x. fill (greatest (degrees G side)) (map suc (neighbours G side x))) Low (below (nodes G side)) (λ x m.
       fill-low 786432 (greatest (degrees G side)) (map suc (neighbours G side x)) (each-image suc (λ n. n ≤ 786432) (neighbours G side x) (neighbour-low side x)))
 
-  pub most-low : (side : Side) → greatest (degrees (graph plan s) side) ≤ 512
+  pub most-low : (side : Side) → greatest (degrees (graphOf plan s) side) ≤ 512
   most-low side = omega (arith, most-few plan s w side, few-blocks side)
 
-  line-low : (line : List ℕ) → Mem line (linesOf (graph plan s)) → Low line
+  line-low : (line : List ℕ) → Mem line (linesOf (graphOf plan s)) → Low line
   unfolding linesOf
   line-low line (inl e) = rw e (pair-low (nodes G Bits) (nodes G Checks) (nodes-small Bits) (nodes-small Checks))
   line-low line (inr (inl e)) = rw e (pair-low (greatest (degrees G Bits)) (greatest (degrees G Checks)) (omega (arith, most-low Bits)) (omega (arith, most-low Checks)))
@@ -140,28 +141,28 @@ module _ (plan : List ℤ) (s : Shape) (w : WellFormed plan (s .rows) (s .cols) 
 
   -- How long the text is at most.
 
-  length-lists : (side : Side) → length (lists (graph plan s) side) ≡ nodes (graph plan s) side
+  length-lists : (side : Side) → length (lists (graphOf plan s) side) ≡ nodes (graphOf plan s) side
   unfolding lists
   length-lists side = length-map (below (nodes G side)) (λ x. fill (greatest (degrees G side)) (map suc (neighbours G side x))) ∙ length-range 0 (nodes G side)
 
-  numbers-lists : (side : Side) → length (numbersOf (lists (graph plan s) side)) ≡ nodes (graph plan s) side * greatest (degrees (graph plan s) side)
+  numbers-lists : (side : Side) → length (numbersOf (lists (graphOf plan s) side)) ≡ nodes (graphOf plan s) side * greatest (degrees (graphOf plan s) side)
   unfolding lists
   numbers-lists side =
       numbers-map (λ x. fill (greatest (degrees G side)) (map suc (neighbours G side x))) (greatest (degrees G side))
       (λ x. length-fill (greatest (degrees G side)) (map suc (neighbours G side x))) (below (nodes G side))
       ∙ ap (λ (n : ℕ). n * greatest (degrees G side)) (length-range 0 (nodes G side))
 
-  length-degrees : (side : Side) → length (degrees (graph plan s) side) ≡ nodes (graph plan s) side
+  length-degrees : (side : Side) → length (degrees (graphOf plan s) side) ≡ nodes (graphOf plan s) side
   unfolding degrees
   length-degrees side = length-map-below (λ x. length (neighbours G side x)) (nodes G side)
 
-  lines-all : length (linesOf (graph plan s)) ≡ 4 + (nodes (graph plan s) Bits + nodes (graph plan s) Checks)
+  lines-all : length (linesOf (graphOf plan s)) ≡ 4 + (nodes (graphOf plan s) Bits + nodes (graphOf plan s) Checks)
   unfolding linesOf
   lines-all = omega (arith, length-append (lists G Bits) (lists G Checks), length-lists Bits, length-lists Checks)
 
-  numbers-all : length (numbersOf (linesOf (graph plan s)))
-      ≡ 4 + (nodes (graph plan s) Bits + nodes (graph plan s) Checks)
-      + (nodes (graph plan s) Bits * greatest (degrees (graph plan s) Bits) + nodes (graph plan s) Checks * greatest (degrees (graph plan s) Checks))
+  numbers-all : length (numbersOf (linesOf (graphOf plan s)))
+      ≡ 4 + (nodes (graphOf plan s) Bits + nodes (graphOf plan s) Checks)
+      + (nodes (graphOf plan s) Bits * greatest (degrees (graphOf plan s) Bits) + nodes (graphOf plan s) Checks * greatest (degrees (graphOf plan s) Checks))
   unfolding linesOf numbersOf
   numbers-all =
       let more = numbersOf (lists G Bits ++ lists G Checks) in
@@ -176,12 +177,12 @@ module _ (plan : List ℤ) (s : Shape) (w : WellFormed plan (s .rows) (s .cols) 
         numbers-lists Checks,
       )
 
-  pub text-most : length (textOf (linesOf (graph plan s)))
-      ≤ 8 * (4 + (nodes (graph plan s) Bits + nodes (graph plan s) Checks))
-      + 7 * (nodes (graph plan s) Bits * greatest (degrees (graph plan s) Bits) + nodes (graph plan s) Checks * greatest (degrees (graph plan s) Checks))
+  pub text-most : length (textOf (linesOf (graphOf plan s)))
+      ≤ 8 * (4 + (nodes (graphOf plan s) Bits + nodes (graphOf plan s) Checks))
+      + 7 * (nodes (graphOf plan s) Bits * greatest (degrees (graphOf plan s) Bits) + nodes (graphOf plan s) Checks * greatest (degrees (graphOf plan s) Checks))
   text-most = omega (arith, textOf-le (linesOf G) line-low, lines-all, numbers-all)
 
-  pub text-fits : length (textOf (linesOf (graph plan s))) < 2 ^ 64
+  pub text-fits : length (textOf (linesOf (graphOf plan s))) < 2 ^ 64
   text-fits =
       omega (
         arith,
@@ -202,7 +203,7 @@ module _ (plan : List ℤ) (l : Layout) (down along : List ℕ) (m : Measured pl
   layout-few =
       (omega (arith, m .most-bits, most-low plan (l .shape) (m .ready .well) Bits), omega (arith, m .most-checks, most-low plan (l .shape) (m .ready .well) Checks))
 
-  pub layout-most : length (textOf (linesOf (graph plan (l .shape)))) ≤ mostBytes l
+  pub layout-most : length (textOf (linesOf (graphOf plan (l .shape)))) ≤ mostBytes l
   layout-most =
       same-bound _ _ _ _ _ _ _ _ _ (nodes-of plan (l .shape) Bits) (nodes-of plan (l .shape) Checks) (sym (m .most-bits)) (sym (m .most-checks))
       (text-most plan (l .shape) (m .ready .well))

@@ -7,7 +7,7 @@ use lib.ListN.{length, take}
 use lib.Seq.{take-append-seam}
 use Rattle.exponent.specs.Tanner.{tanner}
 use Rattle.lines.specs.Alist.{linesOf}
-use Rattle.alist.specs.Text.{lineFrom, textOf}
+use Rattle.lines.specs.Text.{lineFrom, textOf}
 use Rattle.alist.specs.Calls.{alistText}
 
 -- the first line, with its line feed

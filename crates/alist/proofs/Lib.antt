@@ -1,7 +1,6 @@
 pub mod Computed
 pub mod FirstLine
 pub mod Laid
-pub mod Reading
 pub mod Bounds
 pub mod Answers
 pub mod Roundtrip

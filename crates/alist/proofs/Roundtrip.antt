@@ -17,13 +17,13 @@ use Rattle.refusal.proofs.Lowest.{lowest-here, lowest-next, lowest-accepted, no
 use Rattle.graph.proofs.Decide.{by-le}
 use Rattle.exponent.specs.Limits.{planRules, WellFormed}
 use Rattle.exponent.proofs.Rules.{accepted}
-use Rattle.tokens.specs.Decimal.{digit, digits, decimal}
+use Rattle.decimal.specs.Decimal.{digit, digits, decimal}
 use Rattle.tokens.specs.Tokens.{blank, blanks, token, start, tokenAt, stop, right, mismatch}
 use Rattle.tokens.proofs.Runs.{same-exactly}
 use Rattle.lines.specs.Alist.{alist}
 use Rattle.alist.specs.declared.Written.the-variants as answer
 use Rattle.alist.specs.declared.Comparison.the-variants.{Agrees}
-use Rattle.alist.specs.Text.{item, lineFrom, textOf, numbersOf}
+use Rattle.lines.specs.Text.{item, lineFrom, textOf, numbersOf}
 use Rattle.alist.specs.Calls.{alistText, roomRules, writeRules, written, laid, tokenRules, compareRules, comparison}
 
 -- Runs of blank bytes, and runs of digits, which are no blank bytes.

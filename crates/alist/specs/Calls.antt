@@ -16,7 +16,7 @@ use Rattle.alist.specs.declared.Written.{Written}
 use Rattle.alist.specs.declared.Written.the-variants as answer
 use Rattle.alist.specs.declared.Comparison.{Comparison}
 use Rattle.alist.specs.declared.Comparison.the-variants.{Agrees, Refused}
-use Rattle.alist.specs.Text.{textOf, numbersOf}
+use Rattle.lines.specs.Text.{textOf, numbersOf}
 
 -- the alist of a plan as text
 abbrev pub alistText : List ℤ → ℕ → ℕ → ℕ → List ℕ

@@ -5,18 +5,17 @@ ghost use Rattle.refusal.specs.Lowest.{lowest};
 ghost use Rattle.exponent.specs.Limits.{WellFormed};
 ghost use Rattle.tokens.specs.Tokens.{mismatch};
 ghost use Rattle.lines.specs.Alist.{linesOf};
-ghost use Rattle.lines.specs.Sides.{graph};
+ghost use Rattle.exponent.specs.Tanner.{graphOf};
 ghost use Rattle.alist.specs.Calls.{alistText, writeRules, written, laid, tokenRules, compareRules, comparison};
-ghost use Rattle.alist.specs.Text.{numbersOf};
+ghost use Rattle.lines.specs.Text.{numbersOf};
 
-pub mod put; // put.rt: bytes, numbers, lines and the whole text, written where there is room
-mod reader; // reader.rt: a lent text with the place that reading has come to
-mod verify; // verify.rt: a text against the lines
+mod put; // put.rt: lines and the whole text, written where there is room
 
+use comparer::Verdict;
+use comparer::reader;
+use exponent::Shape;
 use exponent::Validity;
-use exponent::index::Shape;
 use refusal::Refusal;
-use verify::Verdict;
 
 // The length of the text written, or why there is none.
 pub enum Written {
@@ -43,7 +42,7 @@ pub fn write(plan: &[i16], rows: usize, cols: usize, lift: usize, text: &mut [u8
 // The comparison of a lent text with the alist of a valid plan.
 fn compare_valid(plan: &[i16], s: Shape, text: &[u8]) -> Comparison
     requires { ⌜ WellFormed (now plan) (s .rows) (s .cols) (s .lift) ⌝ }
-    ensures { λ r. ⌜ r ≡ comparison (lowest (tokenRules (mismatch (now (text .entry)) 0 (numbersOf (linesOf (graph (now (plan .entry)) s)))))) ⌝ }
+    ensures { λ r. ⌜ r ≡ comparison (lowest (tokenRules (mismatch (now (text .entry)) 0 (numbersOf (linesOf (graphOf (now (plan .entry)) s)))))) ⌝ }
 {
     match reader::read_alist(text, plan, s) {
         Verdict::Same => Comparison::Agrees,

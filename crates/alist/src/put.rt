@@ -1,6 +1,5 @@
 use crate::Written;
-use exponent::index;
-use exponent::index::Shape;
+use exponent::Shape;
 use lines::Layout;
 use lines::Line;
 use lines::generate;
@@ -8,77 +7,17 @@ use lines::sides;
 use lines::sides::Side;
 use refusal::Refusal;
 ghost use mathlib.Core.Path.{_≡_};
-ghost use mathlib.Core.List.{[], _∷_};
-ghost use Prim.Native.Nat.{_+_, _/_, _%_, _<_, _≤_, _^_};
+ghost use Prim.Native.Nat.{_+_, _<_, _≤_, _^_};
 ghost use lib.ListN.{length};
 ghost use Rattle.exponent.specs.Limits.{WellFormed};
-ghost use Rattle.tokens.specs.Decimal.{digit, decimal};
 ghost use Rattle.lines.specs.Alist.{linesOf};
-ghost use Rattle.alist.specs.Text.{item, lineFrom, textOf};
+ghost use Rattle.lines.specs.Text.{item, lineFrom, textOf};
 ghost use Rattle.alist.specs.Calls.{alistText};
-ghost use Rattle.lines.specs.Sides.{graph, nodeCount, Small};
+ghost use Rattle.exponent.specs.Tanner.{graphOf};
+ghost use Rattle.lines.specs.Sides.{nodeCount, Small};
 ghost use Rattle.lines.specs.Lines.{lineOf, Measured, InLine};
-ghost use Rattle.alist.specs.Steps.{Wrote, mostBytes, Put};
-
-// Writes a byte where there is room, and returns the next place.
-pub fn put_byte(text: &mut [u8], at: usize, b: u8) -> usize
-    requires { ⌜ at + 1 < 2 ^ 64 ⌝ }
-    ensures { λ r. ⌜ Wrote (now (text .entry)) at (b ∷ []) r (now (text .exit)) ⌝ }
-{
-    if at < text.len() {
-        text[at] = b;
-    }
-    at + 1
-}
-
-// How many digits a number has.
-fn digit_count(n: usize) -> usize
-    ensures { λ r. ⌜ r ≡ length (decimal n) ⌝ }
-{
-    let mut m = n;
-    let mut d = 0;
-    while 9999 < m {
-        m = m / 10000;
-        d += 4;
-    }
-    if m < 10 {
-        return d + 1;
-    }
-    if m < 100 {
-        return d + 2;
-    }
-    if m < 1000 {
-        return d + 3;
-    }
-    d + 4
-}
-
-// Writes the two digits of a number below 100.
-fn put_two(text: &mut [u8], at: usize, n: usize) -> usize
-    requires { ⌜ (n < 100) × (at + 2 < 2 ^ 64) ⌝ }
-    ensures { λ r. ⌜ Wrote (now (text .entry)) at (digit (n / 10) ∷ digit (n % 10) ∷ []) r (now (text .exit)) ⌝ }
-{
-    let next = put_byte(text, at, 48 + ((n / 10) as u8));
-    put_byte(text, next, 48 + ((n % 10) as u8))
-}
-
-// Writes a number in decimal: the digits of its hundredth, and its last two. Past the end its digits are only counted.
-pub fn put_number(text: &mut [u8], at: usize, n: usize) -> usize
-    requires { ⌜ at + length (decimal n) < 2 ^ 64 ⌝ }
-    ensures { λ r. ⌜ Wrote (now (text .entry)) at (decimal n) r (now (text .exit)) ⌝ }
-{
-    if text.len() <= at {
-        return at + digit_count(n);
-    }
-    if n < 10 {
-        return put_byte(text, at, 48 + (n as u8));
-    }
-    if n < 100 {
-        return put_two(text, at, n);
-    }
-    let next = put_number(text, at, n / 100);
-    put_two(text, next, n % 100)
-}
+ghost use Rattle.writing.specs.Wrote.{Wrote};
+ghost use Rattle.alist.specs.Steps.{mostBytes, Put};
 
 // Writes the k-th number of a line, with a space before it unless it is the first.
 fn put_item(text: &mut [u8], at: usize, k: usize, n: usize) -> usize
@@ -86,10 +25,10 @@ fn put_item(text: &mut [u8], at: usize, k: usize, n: usize) -> usize
     ensures { λ r. ⌜ Wrote (now (text .entry)) at (item k n) r (now (text .exit)) ⌝ }
 {
     if k == 0 {
-        return put_number(text, at, n);
+        return decimal::put_number(text, at, n);
     }
-    let next = put_byte(text, at, 32);
-    put_number(text, next, n)
+    let next = decimal::put_byte(text, at, 32);
+    decimal::put_number(text, next, n)
 }
 
 // Writes the line of a node, and a line feed after it: most lines are of this kind, so it goes from neighbour to neighbour directly.
@@ -103,8 +42,8 @@ fn put_node(
     side: Side,
     x: usize,
 ) -> usize
-    requires { ⌜ Measured (now plan) l (now down) (now along) × (x < nodeCount (l .shape) side) × (at + length (lineFrom 0 (lineOf (graph (now plan) (l .shape)) (Line.Node side x))) < 2 ^ 64) ⌝ }
-    ensures { λ r. ⌜ Wrote (now (text .entry)) at (lineFrom 0 (lineOf (graph (now (plan .entry)) (l .shape)) (Line.Node side x))) r (now (text .exit)) ⌝ }
+    requires { ⌜ Measured (now plan) l (now down) (now along) × (x < nodeCount (l .shape) side) × (at + length (lineFrom 0 (lineOf (graphOf (now plan) (l .shape)) (Line.Node side x))) < 2 ^ 64) ⌝ }
+    ensures { λ r. ⌜ Wrote (now (text .entry)) at (lineFrom 0 (lineOf (graphOf (now (plan .entry)) (l .shape)) (Line.Node side x))) r (now (text .exit)) ⌝ }
 {
     let w = lines::most_of(l, side);
     let mut k = 0;
@@ -116,7 +55,7 @@ fn put_node(
         from = n.next;
         k += 1;
     }
-    put_byte(text, o, 10)
+    decimal::put_byte(text, o, 10)
 }
 
 // Writes the numbers of a line, and a line feed after it.
@@ -129,8 +68,8 @@ fn put_numbers(
     l: Layout,
     line: Line,
 ) -> usize
-    requires { ⌜ Measured (now plan) l (now down) (now along) × InLine l line × (at + length (lineFrom 0 (lineOf (graph (now plan) (l .shape)) line)) < 2 ^ 64) ⌝ }
-    ensures { λ r. ⌜ Wrote (now (text .entry)) at (lineFrom 0 (lineOf (graph (now (plan .entry)) (l .shape)) line)) r (now (text .exit)) ⌝ }
+    requires { ⌜ Measured (now plan) l (now down) (now along) × InLine l line × (at + length (lineFrom 0 (lineOf (graphOf (now plan) (l .shape)) line)) < 2 ^ 64) ⌝ }
+    ensures { λ r. ⌜ Wrote (now (text .entry)) at (lineFrom 0 (lineOf (graphOf (now (plan .entry)) (l .shape)) line)) r (now (text .exit)) ⌝ }
 {
     let w = lines::width(l, line);
     let mut k = 0;
@@ -142,7 +81,7 @@ fn put_numbers(
         from = n.next;
         k += 1;
     }
-    put_byte(text, o, 10)
+    decimal::put_byte(text, o, 10)
 }
 
 // Writes a line.
@@ -155,8 +94,8 @@ fn put_line(
     l: Layout,
     line: Line,
 ) -> usize
-    requires { ⌜ Measured (now plan) l (now down) (now along) × InLine l line × (at + length (lineFrom 0 (lineOf (graph (now plan) (l .shape)) line)) < 2 ^ 64) ⌝ }
-    ensures { λ r. ⌜ Wrote (now (text .entry)) at (lineFrom 0 (lineOf (graph (now (plan .entry)) (l .shape)) line)) r (now (text .exit)) ⌝ }
+    requires { ⌜ Measured (now plan) l (now down) (now along) × InLine l line × (at + length (lineFrom 0 (lineOf (graphOf (now plan) (l .shape)) line)) < 2 ^ 64) ⌝ }
+    ensures { λ r. ⌜ Wrote (now (text .entry)) at (lineFrom 0 (lineOf (graphOf (now (plan .entry)) (l .shape)) line)) r (now (text .exit)) ⌝ }
 {
     match line {
         Line::Node(side, x) => put_node(text, at, plan, down, along, l, side, x),
@@ -166,8 +105,8 @@ fn put_line(
 
 // Writes all lines, where there is room, and returns the text's length.
 fn put_text(text: &mut [u8], plan: &[i16], down: &[u16], along: &[u16], l: Layout) -> usize
-    requires { ⌜ Measured (now plan) l (now down) (now along) × (length (textOf (linesOf (graph (now plan) (l .shape)))) < 2 ^ 64) ⌝ }
-    ensures { λ r. ⌜ Wrote (now (text .entry)) 0 (textOf (linesOf (graph (now (plan .entry)) (l .shape)))) r (now (text .exit)) ⌝ }
+    requires { ⌜ Measured (now plan) l (now down) (now along) × (length (textOf (linesOf (graphOf (now plan) (l .shape)))) < 2 ^ 64) ⌝ }
+    ensures { λ r. ⌜ Wrote (now (text .entry)) 0 (textOf (linesOf (graphOf (now (plan .entry)) (l .shape)))) r (now (text .exit)) ⌝ }
 {
     let count = lines::line_count(l);
     let mut i = 0;
@@ -194,7 +133,7 @@ fn most_bytes(l: Layout) -> usize
 // place at all tells the length.
 fn put_all(text: &mut [u8], plan: &[i16], down: &[u16], along: &[u16], l: Layout) -> Written
     requires { ⌜ Measured (now plan) l (now down) (now along) ⌝ }
-    ensures { λ r. ⌜ Put (textOf (linesOf (graph (now (plan .entry)) (l .shape)))) (now (text .entry)) r (now (text .exit)) ⌝ }
+    ensures { λ r. ⌜ Put (textOf (linesOf (graphOf (now (plan .entry)) (l .shape)))) (now (text .entry)) r (now (text .exit)) ⌝ }
 {
     if most_bytes(l) <= text.len() {
         let length = put_text(text, plan, down, along, l);

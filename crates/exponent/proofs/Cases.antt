@@ -1,7 +1,6 @@
 -- The document's cases of the graph, computed. Assumes nothing.
 use Prim.Native.Nat.{ℕ}
 use mathlib.Core.Path.{_≡_, refl}
-use mathlib.Core.Bool.{true, false}
 use mathlib.Core.List.{List, [], _∷_}
 use mathlib.Core.Option.{Option, none, some}
 use lib.IntN.{ℤ, pos, negsuc}
@@ -9,13 +8,13 @@ use Rattle.refusal.specs.declared.Refusal.{Refusal}
 use Rattle.refusal.specs.declared.Refusal.the-variants.{Rows, Cols, Lift, Bits, PlanLength, Entry}
 use Rattle.refusal.specs.Lowest.{lowest}
 use Rattle.refusal.specs.Place.{firstPlace}
-use Rattle.graph.specs.Count.{range, select, count}
+use Rattle.graph.specs.Count.{range, select}
 use Rattle.graph.specs.Graph.{bitsOf, checksOf}
 use Rattle.graph.specs.Girth.{SimpleCycle}
 use Rattle.graph.proofs.Cases.{cycle-if}
 use Rattle.exponent.specs.Plan.{entryAt, blockAt}
 use Rattle.exponent.specs.Limits.{planRules}
-use Rattle.exponent.specs.Tanner.{tanner, turn, columnWeight}
+use Rattle.exponent.specs.Tanner.{tanner}
 
 -- the one-row plan 0 1
 abbrev pub pair : List ℤ

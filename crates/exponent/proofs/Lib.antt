@@ -4,4 +4,3 @@ pub mod Rules
 pub mod Tanner
 pub mod Turning
 pub mod Cases
-pub mod Skips

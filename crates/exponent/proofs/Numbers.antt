@@ -1,8 +1,16 @@
 -- Numbers of checks and bits, and sums modulo the lift. Assumes nothing.
 use Prim.Native.Nat.{ℕ, _+_, _-_, _*_, _/_, _%_, _≤_, _<_}
-use mathlib.Core.Path.{_≡_, refl, sym, ap, _∙_}
+use mathlib.Core.Path.{_≡_, sym, ap, _∙_}
 use native.Mathlib.Omega.{arith}
-use native.Mathlib.Nat.{mul-add-div-right, mul-add-mod-self-right, mod-eq-of-lt, mod-lt, mod-mod, div-eq-of-lt, div-lt-iff-lt-mul, mul-le-mul-right, suc-mul, mod-add-mod, add-mod-mod, add-mod-right}
+use native.Mathlib.Nat.{mul-add-div-right, mul-add-mod-self-right, mod-eq-of-lt, mod-lt, div-eq-of-lt, div-lt-iff-lt-mul, mul-le-mul, mul-le-mul-right, suc-mul, mod-add-mod, add-mod-mod, add-mod-right}
+
+-- number i * lift + y lies below n * lift; so does place (i, j) of a list of rows
+pub number-low : (i y n lift : ℕ) → i < n → y < lift → i * lift + y < n * lift
+number-low i y n lift h k = omega (arith, suc-mul i lift, mul-le-mul-right lift h)
+
+-- the places of a plan
+pub place-small : (rows cols : ℕ) → rows ≤ 192 → cols ≤ 512 → rows * cols ≤ 98304
+place-small rows cols p q = mul-le-mul p q
 
 module _ (lift : ℕ) (some : 0 < lift) where
   -- number i * lift + y stands in block i, at place y
@@ -11,9 +19,6 @@ module _ (lift : ℕ) (some : 0 < lift) where
 
   pub place-of : (i y : ℕ) → y < lift → (i * lift + y) % lift ≡ y
   place-of i y h = mul-add-mod-self-right i lift y ∙ mod-eq-of-lt h
-
-  pub number-low : (i y n : ℕ) → i < n → y < lift → i * lift + y < n * lift
-  number-low i y n h k = omega (arith, suc-mul i lift, mul-le-mul-right lift h)
 
   pub block-low : (x n : ℕ) → x < n * lift → x / lift < n
   block-low x n h = div-lt-iff-lt-mul some .1 h

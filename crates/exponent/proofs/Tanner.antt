@@ -1,25 +1,25 @@
 -- The Tanner graph of a plan: its edges by block, the bits of a check and the checks of a bit, and their numbers.
 -- Assumes nothing.
 use Prim.Native.Nat.{ℕ, zero, suc, _+_, _-_, _*_, _/_, _%_, _≤_, _<_}
-use mathlib.Core.Path.{_≡_, refl, sym, ap, ap₂, subst, _∙_}
+use mathlib.Core.Path.{_≡_, refl, ap, subst, _∙_}
 use mathlib.Core.Logic.{_↔_}
 use mathlib.Core.Bool.{Bool, true, false, cond}
-use mathlib.Core.List.{List, [], _∷_}
-use mathlib.Core.Option.{Option, none, some}
+use mathlib.Core.List.{List}
+use mathlib.Core.Option.{some}
 use native.Mathlib.Omega.{arith}
 use native.Mathlib.Nat.{mod-lt, div-add-mod', div-lt-iff-lt-mul}
 use borrow.Author.Tests.{eqb-true, eq-eqb, ltb-true}
 use lib.Dec.{eqb, ltb}
 use lib.IntN.{ℤ, pos, negsuc}
 use lib.ListN.{getD, length}
-use Rattle.graph.specs.Count.{range, below, select, count}
+use Rattle.graph.specs.Count.{below}
 use Rattle.graph.specs.Graph.{Bipartite, bitsOf, checksOf}
 use Rattle.graph.specs.Stopping.{ThreeChecks}
-use Rattle.graph.proofs.Decide.{by-bool, same-bool}
+use Rattle.graph.proofs.Decide.{same-bool}
 use Rattle.graph.proofs.Count.{count-same}
 use Rattle.exponent.specs.declared.block.Block.{Block}
 use Rattle.exponent.specs.declared.block.Block.the-variants.{Zero, Shift, Invalid}
-use Rattle.exponent.specs.Plan.{shiftBlock, blockOf, entryAt, blockAt, filled}
+use Rattle.exponent.specs.Plan.{blockOf, entryAt, blockAt, filled}
 use Rattle.exponent.specs.Tanner.{edge, tanner, columnWeight, rowWeight, ThreeBlocks}
 use Rattle.exponent.specs.Neighbours.{gather, bitIn, checkIn}
 use Rattle.exponent.proofs.Numbers.{block-of, place-of, undo}

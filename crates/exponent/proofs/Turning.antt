@@ -28,7 +28,7 @@ module _ (lift : ℕ) (some : 0 < lift) (k : ℕ) where
 
   pub turn-low : (n x : ℕ) → x < n * lift → turn lift k x < n * lift
   unfolding turn
-  turn-low n x h = number-low lift some (x / lift) ((x % lift + k) % lift) n (block-low lift some x n h) (mod-lt (x % lift + k) some)
+  turn-low n x h = number-low (x / lift) ((x % lift + k) % lift) n lift (block-low lift some x n h) (mod-lt (x % lift + k) some)
 
   -- different numbers stay different
   pub turn-same : (a b : ℕ) → turn lift k a ≡ turn lift k b → a ≡ b

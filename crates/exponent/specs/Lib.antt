@@ -3,4 +3,3 @@ pub mod Limits
 pub mod Position
 pub mod Tanner
 pub mod Neighbours
-pub mod Index

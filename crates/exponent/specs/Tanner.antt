@@ -1,11 +1,12 @@
 -- The Tanner graph of a plan (document 01: expanded graph), its turning, and the weights of rows and columns.
 use Prim.Native.Nat.{ℕ, _+_, _*_, _/_, _%_, _≤_, _<_}
-use mathlib.Core.Bool.{Bool, true, false}
+use mathlib.Core.Bool.{Bool, false}
 use mathlib.Core.List.{List}
 use lib.Dec.{eqb}
 use lib.IntN.{ℤ}
 use Rattle.graph.specs.Count.{below, count}
 use Rattle.graph.specs.Graph.{Bipartite}
+use Rattle.exponent.specs.declared.Shape.{Shape}
 use Rattle.exponent.specs.declared.block.Block.{Block}
 use Rattle.exponent.specs.declared.block.Block.the-variants.{Zero, Shift, Invalid}
 use Rattle.exponent.specs.Plan.{blockAt, filled}
@@ -24,6 +25,10 @@ tanner plan rows cols lift =
       bits = cols * lift;
       joins = λ c b. edge (blockAt plan cols lift (c / lift) (b / lift)) lift (c % lift) (b % lift);
     }
+
+-- the same by the plan's sizes
+abbrev pub graphOf : List ℤ → Shape → Bipartite
+graphOf plan s = tanner plan (s .rows) (s .cols) (s .lift)
 
 -- check (i, y), or bit (j, y), turned by k within its row or column of blocks: y becomes (y + k) mod lift
 unfoldable pub turn : ℕ → ℕ → ℕ → ℕ

@@ -4,11 +4,17 @@ ghost use Rattle.refusal.specs.Lowest.{lowest};
 ghost use Rattle.exponent.specs.Limits.{planRules, validity};
 
 pub mod block; // block.rt: what an entry of the matrix says; the only place that reads a signed number
-pub mod index; // index.rt: the next filled block of a row and of a column
 pub mod limits; // limits.rt: the tests behind refusals 1 to 6
 pub mod position; // position.rt: a walk's position, and its two steps
 
 use refusal::Refusal;
+
+// The sizes of a plan.
+pub struct Shape {
+    pub rows: usize,
+    pub cols: usize,
+    pub lift: usize,
+}
 
 // Whether a plan may be used.
 pub enum Validity {

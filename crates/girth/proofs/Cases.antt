@@ -12,7 +12,8 @@ use Rattle.exponent.specs.Plan.{entryAt, blockAt}
 use Rattle.girth.specs.declared.GirthTest.{GirthTest}
 use Rattle.girth.specs.declared.Outcome.the-variants.{Passed, Failed, Refused}
 use Rattle.girth.specs.Test.{allowed, testRules, without-witness}
-use Rattle.girth.specs.Search.{firstOf, atCheck, closedWalk, trail, shortest, model}
+use Rattle.walks.specs.Search.{firstOf, atCheck, closedWalk, trail}
+use Rattle.girth.specs.Model.{shortest, model}
 
 pub record Case : Type 0 where
   pub plan : List ℤ

@@ -1,11 +1,6 @@
 pub mod Cases
-pub mod Found
-pub mod Link
-pub mod OneRow
-pub mod Closed
-pub mod Simple
 pub mod Verdict
-pub mod Loops
-pub mod Steps
+pub mod Fewest
+pub mod Skips
 pub mod Rules
 pub mod Model

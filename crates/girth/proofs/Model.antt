@@ -7,7 +7,8 @@ use lib.IntN.{ℤ}
 use Rattle.refusal.specs.declared.Refusal.{Refusal}
 use Rattle.refusal.specs.Lowest.{lowest}
 use Rattle.girth.specs.Test.{testRules, Answer, refused}
-use Rattle.girth.specs.Search.{blocksOf, shortest, onRefusal, model}
+use Rattle.walks.specs.Search.{blocksOf}
+use Rattle.girth.specs.Model.{shortest, onRefusal, model}
 use Rattle.girth.proofs.Verdict.{model-answers}
 
 pub model-answer : (plan : List ℤ) (rows cols lift target : ℕ) → Answer plan rows cols lift target (model plan rows cols lift target)

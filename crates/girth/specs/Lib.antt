@@ -1,2 +1,2 @@
 pub mod Test
-pub mod Search
+pub mod Model

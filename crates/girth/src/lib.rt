@@ -2,15 +2,15 @@
 ghost use mathlib.Core.Path.{_≡_};
 ghost use Prim.Native.Nat.{_-_, _/_, _≤_};
 ghost use Rattle.exponent.specs.Limits.{WellFormed};
-ghost use Rattle.girth.specs.Search.{blocksOf, shortest};
+ghost use Rattle.walks.specs.Search.{blocksOf};
+ghost use Rattle.girth.specs.Model.{shortest};
 ghost use Rattle.girth.specs.Test.{Answer, allowed, without-witness};
 
 mod search; // search.rt: closed walks from a bit, by two functions that call each other
-mod trail; // trail.rt: the checks and bits of a closed walk
+mod rounds; // rounds.rt: closed walks over 2, 3, … checks, and the answer that shows one
 
+use exponent::Shape;
 use exponent::Validity;
-use exponent::index;
-use exponent::index::Shape;
 use refusal::Refusal;
 
 pub enum Outcome {
@@ -60,7 +60,7 @@ fn test_valid(plan: &[i16], shape: Shape, target: usize) -> GirthTest
     let mut down = [0u16; index::PLACES];
     let mut along = [0u16; index::PLACES];
     index::build(plan, shape, &mut down, &mut along);
-    search::shortest_below(plan, &down, &along, shape, target / 2)
+    rounds::shortest_below(plan, &down, &along, shape, target / 2)
 }
 
 // Whether no simple cycle has fewer edges than the target; else such a cycle.

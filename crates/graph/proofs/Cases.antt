@@ -1,7 +1,7 @@
 -- Worked cases: computed tests of simple cycles, a graph that fails, and one at which the tree bound is reached.
 -- Assumes nothing.
-use Prim.Native.Nat.{ℕ, zero, suc, _+_, _*_, _-_, _%_, _≤_, _<_}
-use mathlib.Core.Path.{_≡_, refl, sym}
+use Prim.Native.Nat.{ℕ, zero, suc, _+_, _-_, _%_, _≤_, _<_}
+use mathlib.Core.Path.{_≡_, refl}
 use mathlib.Core.Logic.{_≢_}
 use mathlib.Core.Bool.{Bool, true, false, _&&_, _||_, not}
 use mathlib.Core.List.{List, [], _∷_}
@@ -13,7 +13,7 @@ use Rattle.graph.specs.Count.{range, below, select, count}
 use Rattle.graph.specs.Graph.{Bipartite, Joined, bitsOf, checksOf}
 use Rattle.graph.specs.Girth.{SimpleCycle, Passes}
 use Rattle.graph.specs.Stopping.{Stopping, ThreeChecks, girth-6}
-use Rattle.graph.proofs.Decide.{by-eq, by-bool, both-ways, and-left, and-right, and-both}
+use Rattle.graph.proofs.Decide.{by-eq, both-ways, and-left, and-right, and-both}
 use Rattle.graph.proofs.Tree.{stopping-least}
 
 -- every number below n passes the test

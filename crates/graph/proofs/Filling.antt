@@ -13,7 +13,7 @@ use lib.Seq.{getD-set-same, getD-set-other, ext-getD}
 use Rattle.graph.specs.Count.{below, one, count}
 use Rattle.graph.specs.Graph.{Bipartite, bitsOf}
 use Rattle.graph.specs.Stopping.{Stopping}
-use Rattle.graph.specs.Erasure.{erased, total, parity, Codeword, Damaged, any, only, peel, peels, largest, Solution}
+use Rattle.graph.specs.Erasure.{erased, total, parity, Damaged, any, only, peel, peels, largest, Solution}
 use Rattle.graph.specs.Filling.{forced, fillRound, fillRounds, filledWord, oddCheck, clash, erasures, filledCount, leftCount}
 use Rattle.graph.proofs.Decide.{both-ways, by-bool, by-eq, by-le, and-left, and-right, and-both, same-bool}
 use Rattle.graph.proofs.Lists.{Mem}

@@ -11,23 +11,23 @@ use native.Mathlib.Numerals.{add-one}
 use lib.IntN.{ℤ}
 use lib.ListN.{length, replicate, length-replicate}
 use borrow.Author.Tests.{lt-ltb, le-ltb}
-use Rattle.graph.specs.Count.{range, below, one, count}
+use Rattle.graph.specs.Count.{range, below, count}
 use Rattle.graph.proofs.Decide.{by-le, both-ways}
 use Rattle.graph.proofs.Count.{count-le, length-range}
 use Rattle.exponent.specs.declared.block.Block.{Block}
 use Rattle.exponent.specs.declared.block.Block.the-variants.{Zero, Shift, Invalid}
-use Rattle.exponent.specs.declared.index.Shape.{Shape}
+use Rattle.exponent.specs.declared.Shape.{Shape}
 use Rattle.exponent.specs.Plan.{filled}
 use Rattle.exponent.specs.Limits.{WellFormed}
-use Rattle.exponent.specs.Tanner.{tanner, columnWeight, rowWeight}
-use Rattle.exponent.specs.Index.{NextFrom}
+use Rattle.exponent.specs.Tanner.{tanner, columnWeight, rowWeight, graphOf}
+use Rattle.index.specs.Index.{NextFrom}
 use Rattle.exponent.specs.Neighbours.{gather}
-use Rattle.exponent.proofs.Skips.{place-small}
+use Rattle.exponent.proofs.Numbers.{place-small}
 use Rattle.exponent.proofs.Tanner.{shift-low, bits-of-check, checks-of-bit, check-degree, bit-degree}
 use Rattle.lines.specs.declared.sides.Side.{Side}
 use Rattle.lines.specs.declared.sides.Side.the-variants.{Bits, Checks}
 use Rattle.lines.specs.Alist.{nodes, neighbours}
-use Rattle.lines.specs.Sides.{graph, Ready, Small, lanes, blocks, nodeCount, blockOn, filledOn, nextBlock, filledOne, weightOf, turned, pickBy, pickOn, numbered, numberIn, restOf}
+use Rattle.lines.specs.Sides.{Ready, Small, lanes, blocks, nodeCount, blockOn, filledOn, nextBlock, filledOne, weightOf, turned, pickBy, pickOn, numbered, numberIn, restOf}
 
 -- Ranges, and what skips what does not count.
 
@@ -116,7 +116,7 @@ index-room plan s w = room 98304 (s .rows * s .cols) (place-small (s .rows) (s .
 -- A lane of a valid plan.
 
 module _ (plan : List ℤ) (s : Shape) where
-  pub nodes-of : (side : Side) → nodes (graph plan s) side ≡ nodeCount s side
+  pub nodes-of : (side : Side) → nodes (graphOf plan s) side ≡ nodeCount s side
   unfolding tanner
   nodes-of Bits = refl
   nodes-of Checks = refl
@@ -198,23 +198,23 @@ module _ (plan : List ℤ) (s : Shape) where
 
   module _ (w : WellFormed plan (s .rows) (s .cols) (s .lift)) where
     -- the neighbours of a node, and its degree
-    pub neighbours-rest : (side : Side) (x : ℕ) → neighbours (graph plan s) side x ≡ restOf plan s side x 0
+    pub neighbours-rest : (side : Side) (x : ℕ) → neighbours (graphOf plan s) side x ≡ restOf plan s side x 0
     unfolding restOf
     neighbours-rest Bits x =
-        ap (neighbours (graph plan s) Bits) (sym (div-add-mod' x (s .lift)))
+        ap (neighbours (graphOf plan s) Bits) (sym (div-add-mod' x (s .lift)))
         ∙ checks-of-bit plan (s .rows) (s .cols) (s .lift) (w .some-lift) (x / s .lift) (x % s .lift) (mod-lt x (w .some-lift))
         ∙ ap (λ (n : ℕ). gather (s .lift) (pickOn plan s Bits (x / s .lift) (x % s .lift)) (range 0 n)) (sym (sub-zero (blocks s Bits)))
     neighbours-rest Checks x =
-        ap (neighbours (graph plan s) Checks) (sym (div-add-mod' x (s .lift)))
+        ap (neighbours (graphOf plan s) Checks) (sym (div-add-mod' x (s .lift)))
         ∙ bits-of-check plan (s .rows) (s .cols) (s .lift) (w .some-lift) (x / s .lift) (x % s .lift) (mod-lt x (w .some-lift))
         ∙ ap (λ (n : ℕ). gather (s .lift) (pickOn plan s Checks (x / s .lift) (x % s .lift)) (range 0 n)) (sym (sub-zero (blocks s Checks)))
 
-    pub degree-weight : (side : Side) (x : ℕ) → length (neighbours (graph plan s) side x) ≡ weightOf plan s side (x / s .lift)
+    pub degree-weight : (side : Side) (x : ℕ) → length (neighbours (graphOf plan s) side x) ≡ weightOf plan s side (x / s .lift)
     degree-weight Bits x =
-        ap (λ (n : ℕ). length (neighbours (graph plan s) Bits n)) (sym (div-add-mod' x (s .lift)))
+        ap (λ (n : ℕ). length (neighbours (graphOf plan s) Bits n)) (sym (div-add-mod' x (s .lift)))
         ∙ bit-degree plan (s .rows) (s .cols) (s .lift) (w .some-lift) (x / s .lift) (x % s .lift) (mod-lt x (w .some-lift))
     degree-weight Checks x =
-        ap (λ (n : ℕ). length (neighbours (graph plan s) Checks n)) (sym (div-add-mod' x (s .lift)))
+        ap (λ (n : ℕ). length (neighbours (graphOf plan s) Checks n)) (sym (div-add-mod' x (s .lift)))
         ∙ check-degree plan (s .rows) (s .cols) (s .lift) (w .some-lift) (x / s .lift) (x % s .lift) (mod-lt x (w .some-lift))
 
   module _ (down along : List ℕ) (r : Ready plan s down along) where

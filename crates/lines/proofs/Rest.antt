@@ -11,7 +11,7 @@ use lib.Seq.{drop-cons, getD-append-add}
 use Rattle.graph.specs.Count.{range, below}
 use Rattle.graph.specs.Graph.{Bipartite}
 use Rattle.graph.proofs.Count.{length-range, getD-map-below, length-map-below}
-use Rattle.exponent.specs.declared.index.Shape.{Shape}
+use Rattle.exponent.specs.declared.Shape.{Shape}
 use Rattle.exponent.proofs.Numbers.{block-of}
 use Rattle.lines.specs.declared.sides.Side.{Side}
 use Rattle.lines.specs.declared.sides.Side.the-variants.{Bits, Checks}
@@ -20,7 +20,8 @@ use Rattle.lines.specs.declared.Line.{Line}
 use Rattle.lines.specs.declared.Line.the-variants.{Sizes, Greatest, Degrees, Node}
 use Rattle.lines.specs.declared.generate.Number.{Number}
 use Rattle.lines.specs.Alist.{nodes, neighbours, degrees, greatest, fill, lists, linesOf}
-use Rattle.lines.specs.Sides.{graph, nodeCount, weightOf, restOf}
+use Rattle.exponent.specs.Tanner.{graphOf}
+use Rattle.lines.specs.Sides.{nodeCount, weightOf, restOf}
 use Rattle.lines.specs.Lines.{lineOf, order, sideAt, mostOf, Measured, widthOf, lineRest, Carried, Fills}
 use Rattle.lines.proofs.Lanes.{nodes-of, neighbours-rest, degree-weight}
 
@@ -70,13 +71,13 @@ fill-next rest from r k w h p =
 
 module _ (plan : List ℤ) (l : Layout) (down along : List ℕ) (m : Measured plan l down along) where
   abbrev G : Bipartite
-  G = graph plan (l .shape)
+  G = graphOf plan (l .shape)
 
-  most-is : (side : Side) → mostOf l side ≡ greatest (degrees (graph plan (l .shape)) side)
+  most-is : (side : Side) → mostOf l side ≡ greatest (degrees (graphOf plan (l .shape)) side)
   most-is Bits = m .most-bits
   most-is Checks = m .most-checks
 
-  pub line-start : (line : Line) → lineRest plan l line 0 0 ≡ lineOf (graph plan (l .shape)) line
+  pub line-start : (line : Line) → lineRest plan l line 0 0 ≡ lineOf (graphOf plan (l .shape)) line
   unfolding lineRest lineOf
   line-start Sizes = refl
   line-start Greatest = refl
@@ -98,11 +99,11 @@ module _ (plan : List ℤ) (l : Layout) (down along : List ℕ) (m : Measured pl
     pub sizes-next : line ≡ Sizes → (v : ℕ) → v ≡ nodeCount (l .shape) (sideAt k) → GoesOn v 0
     unfolding lineRest lineOf
     sizes-next e v q =
-        rw (e, q ∙ sym (nodes-of plan (l .shape) (sideAt k))) (pair-next (nodes (graph plan (l .shape))) k (rw e at h))
+        rw (e, q ∙ sym (nodes-of plan (l .shape) (sideAt k))) (pair-next (nodes (graphOf plan (l .shape))) k (rw e at h))
 
     pub greatest-next : line ≡ Greatest → (v : ℕ) → v ≡ mostOf l (sideAt k) → GoesOn v 0
     unfolding lineRest lineOf
-    greatest-next e v q = rw (e, q ∙ most-is (sideAt k)) (pair-next (λ side. greatest (degrees (graph plan (l .shape)) side)) k (rw e at h))
+    greatest-next e v q = rw (e, q ∙ most-is (sideAt k)) (pair-next (λ side. greatest (degrees (graphOf plan (l .shape)) side)) k (rw e at h))
 
     pub degree-next : (side : Side) → line ≡ Degrees side → (v : ℕ) → v ≡ weightOf plan (l .shape) side (k / l .shape .lift) → (next : ℕ) → GoesOn v next
     unfolding lineRest lineOf
@@ -200,33 +201,33 @@ map-map f g [] = refl
 map-map f g (x ∷ xs) = ap (λ l. f (g x) ∷ l) (map-map f g xs)
 
 -- the lines of the graph are those of the order
-pub lines-are : (plan : List ℤ) (s : Shape) → map (lineOf (graph plan s)) (order s) ≡ linesOf (graph plan s)
+pub lines-are : (plan : List ℤ) (s : Shape) → map (lineOf (graphOf plan s)) (order s) ≡ linesOf (graphOf plan s)
 unfolding order lineOf linesOf lists
 lines-are plan s =
-    ap (λ (ls : List (List ℕ)). lineOf (graph plan s) Sizes ∷ lineOf (graph plan s) Greatest ∷ degrees (graph plan s) Bits ∷ degrees (graph plan s) Checks ∷ ls)
-    (map-append (lineOf (graph plan s)) (nodesOf s Bits) (nodesOf s Checks)
+    ap (λ (ls : List (List ℕ)). lineOf (graphOf plan s) Sizes ∷ lineOf (graphOf plan s) Greatest ∷ degrees (graphOf plan s) Bits ∷ degrees (graphOf plan s) Checks ∷ ls)
+    (map-append (lineOf (graphOf plan s)) (nodesOf s Bits) (nodesOf s Checks)
     ∙ ap₂ (λ (a b : List (List ℕ)). a ++ b) (each Bits) (each Checks))
   where
-    each : (side : Side) → map (lineOf (graph plan s)) (nodesOf s side) ≡ lists (graph plan s) side
+    each : (side : Side) → map (lineOf (graphOf plan s)) (nodesOf s side) ≡ lists (graphOf plan s) side
     each side =
-        map-map (lineOf (graph plan s)) (λ x. Node side x) (below (nodeCount s side))
-        ∙ ap (λ (n : ℕ). map (λ x. lineOf (graph plan s) (Node side x)) (below n)) (sym (nodes-of plan s side))
+        map-map (lineOf (graphOf plan s)) (λ x. Node side x) (below (nodeCount s side))
+        ∙ ap (λ (n : ℕ). map (λ x. lineOf (graphOf plan s) (Node side x)) (below n)) (sym (nodes-of plan s side))
 
 -- The lines from line i on, as text and as numbers: `f` takes a line, `join` puts it before the others.
 
 module _ (plan : List ℤ) (s : Shape) where
   pub linesFrom : ℕ → List (List ℕ)
-  linesFrom i = map (lineOf (graph plan s)) (drop i (order s))
+  linesFrom i = map (lineOf (graphOf plan s)) (drop i (order s))
 
-  pub lines-start : linesFrom 0 ≡ linesOf (graph plan s)
+  pub lines-start : linesFrom 0 ≡ linesOf (graphOf plan s)
   unfolding linesFrom
   lines-start = lines-are plan s
 
   pub lines-next : (i : ℕ) (line : Line) → i < 4 + (nodeCount s Bits + nodeCount s Checks) → line ≡ getD (order s) i Sizes
-      → linesFrom i ≡ lineOf (graph plan s) line ∷ linesFrom (i + 1)
+      → linesFrom i ≡ lineOf (graphOf plan s) line ∷ linesFrom (i + 1)
   unfolding linesFrom
-  lines-next i line h e = rw (add-one i, e) (ap (map (lineOf (graph plan s))) (drop-cons (order s) i Sizes (omega (arith, length-order s))))
+  lines-next i line h e = rw (add-one i, e) (ap (map (lineOf (graphOf plan s))) (drop-cons (order s) i Sizes (omega (arith, length-order s))))
 
   pub lines-end : (i : ℕ) → 4 + (nodeCount s Bits + nodeCount s Checks) ≤ i → linesFrom i ≡ []
   unfolding linesFrom
-  lines-end i h = ap (map (lineOf (graph plan s))) (drop-of-length-le (order s) {i = i} (omega (arith, length-order s)))
+  lines-end i h = ap (map (lineOf (graphOf plan s))) (drop-of-length-le (order s) {i = i} (omega (arith, length-order s)))

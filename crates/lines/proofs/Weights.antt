@@ -11,14 +11,14 @@ use Rattle.graph.specs.Count.{range, below}
 use Rattle.graph.specs.Graph.{Bipartite}
 use Rattle.graph.proofs.Lists.{Mem, mem-image, each-image}
 use Rattle.graph.proofs.Neighbours.{mem-below, below-mem}
-use Rattle.exponent.specs.declared.index.Shape.{Shape}
+use Rattle.exponent.specs.declared.Shape.{Shape}
 use Rattle.exponent.specs.Limits.{WellFormed}
-use Rattle.exponent.specs.Tanner.{tanner, columnWeight, rowWeight}
+use Rattle.exponent.specs.Tanner.{tanner, columnWeight, rowWeight, graphOf}
 use Rattle.exponent.proofs.Numbers.{block-of, number-low}
 use Rattle.lines.specs.declared.sides.Side.{Side}
 use Rattle.lines.specs.declared.sides.Side.the-variants.{Bits, Checks}
 use Rattle.lines.specs.Alist.{nodes, neighbours, degrees, greatest, fill}
-use Rattle.lines.specs.Sides.{graph, lanes, blocks, weightOf}
+use Rattle.lines.specs.Sides.{lanes, blocks, weightOf}
 use Rattle.lines.proofs.Lanes.{range-next, range-end, node-lane, nodes-of, weight-le, degree-weight}
 
 -- The greatest of a list: no member is greater, and nothing that no member exceeds is less.
@@ -92,31 +92,31 @@ unfolding mostFrom greatest
 most-end f n k h = ap (λ (l : List ℕ). greatest (map f l)) (range-end k n h)
 
 module _ (plan : List ℤ) (s : Shape) (w : WellFormed plan (s .rows) (s .cols) (s .lift)) (side : Side) where
-  pub most-start : mostFrom (weightOf plan s side) (lanes s side) 0 ≡ greatest (degrees (graph plan s) side)
+  pub most-start : mostFrom (weightOf plan s side) (lanes s side) 0 ≡ greatest (degrees (graphOf plan s) side)
   unfolding mostFrom degrees
   most-start = ap (λ (n : ℕ). greatest (map (weightOf plan s side) (range 0 n))) (let e : lanes s side - 0 ≡ lanes s side = omega arith in e) ∙ omega (arith, up, down)
     where
-      down : greatest (map (weightOf plan s side) (below (lanes s side))) ≤ greatest (degrees (graph plan s) side)
+      down : greatest (map (weightOf plan s side) (below (lanes s side))) ≤ greatest (degrees (graphOf plan s) side)
       down =
-          greatest-le (greatest (degrees (graph plan s) side)) (map (weightOf plan s side) (below (lanes s side)))
-          (each-image (weightOf plan s side) (λ n. n ≤ greatest (degrees (graph plan s) side)) (below (lanes s side)) (λ lane m.
-          let low = number-low (s .lift) (w .some-lift) lane 0 (lanes s side) (mem-below lane (lanes s side) m) (w .some-lift) in
+          greatest-le (greatest (degrees (graphOf plan s) side)) (map (weightOf plan s side) (below (lanes s side)))
+          (each-image (weightOf plan s side) (λ n. n ≤ greatest (degrees (graphOf plan s) side)) (below (lanes s side)) (λ lane m.
+          let low = number-low lane 0 (lanes s side) (s .lift) (mem-below lane (lanes s side) m) (w .some-lift) in
           let same = degree-weight plan s w side (lane * s .lift + 0) ∙ ap (weightOf plan s side) (block-of (s .lift) (w .some-lift) lane 0 (w .some-lift)) in
-          omega (arith, same, degree-most (graph plan s) side (lane * s .lift + 0) (omega (arith, low, nodes-of plan s side)))))
+          omega (arith, same, degree-most (graphOf plan s) side (lane * s .lift + 0) (omega (arith, low, nodes-of plan s side)))))
 
-      up : greatest (degrees (graph plan s) side) ≤ greatest (map (weightOf plan s side) (below (lanes s side)))
+      up : greatest (degrees (graphOf plan s) side) ≤ greatest (map (weightOf plan s side) (below (lanes s side)))
       up =
-          greatest-le (greatest (map (weightOf plan s side) (below (lanes s side)))) (degrees (graph plan s) side)
-          (each-image (λ x. length (neighbours (graph plan s) side x)) (λ n. n ≤ greatest (map (weightOf plan s side) (below (lanes s side)))) (below (nodes (graph plan s) side))
+          greatest-le (greatest (map (weightOf plan s side) (below (lanes s side)))) (degrees (graphOf plan s) side)
+          (each-image (λ x. length (neighbours (graphOf plan s) side x)) (λ n. n ≤ greatest (map (weightOf plan s side) (below (lanes s side)))) (below (nodes (graphOf plan s) side))
           (λ x m.
-          let low = node-lane s side x (w .some-lift) (omega (arith, mem-below x (nodes (graph plan s) side) m, nodes-of plan s side)) in
+          let low = node-lane s side x (w .some-lift) (omega (arith, mem-below x (nodes (graphOf plan s) side) m, nodes-of plan s side)) in
           let member = mem-image (weightOf plan s side) (x / s .lift) (below (lanes s side)) (below-mem (x / s .lift) (lanes s side) low) in
           omega (arith, degree-weight plan s w side x, greatest-mem (weightOf plan s side (x / s .lift)) (map (weightOf plan s side) (below (lanes s side))) member)))
 
   -- no greatest degree exceeds the blocks of a lane
-  pub most-few : greatest (degrees (graph plan s) side) ≤ blocks s side
+  pub most-few : greatest (degrees (graphOf plan s) side) ≤ blocks s side
   unfolding degrees
   most-few =
-      greatest-le (blocks s side) (degrees (graph plan s) side)
-      (each-image (λ x. length (neighbours (graph plan s) side x)) (λ n. n ≤ blocks s side) (below (nodes (graph plan s) side))
+      greatest-le (blocks s side) (degrees (graphOf plan s) side)
+      (each-image (λ x. length (neighbours (graphOf plan s) side x)) (λ n. n ≤ blocks s side) (below (nodes (graphOf plan s) side))
       (λ x m. omega (arith, degree-weight plan s w side x, weight-le plan s side (x / s .lift))))

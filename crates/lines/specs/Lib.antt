@@ -1,3 +1,4 @@
 pub mod Alist
+pub mod Text
 pub mod Sides
 pub mod Lines

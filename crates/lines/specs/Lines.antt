@@ -6,7 +6,7 @@ use lib.IntN.{ℤ}
 use lib.ListN.{drop}
 use Rattle.graph.specs.Count.{below}
 use Rattle.graph.specs.Graph.{Bipartite}
-use Rattle.exponent.specs.declared.index.Shape.{Shape}
+use Rattle.exponent.specs.declared.Shape.{Shape}
 use Rattle.lines.specs.declared.sides.Side.{Side}
 use Rattle.lines.specs.declared.sides.Side.the-variants.{Bits, Checks}
 use Rattle.lines.specs.declared.Layout.{Layout}
@@ -14,7 +14,8 @@ use Rattle.lines.specs.declared.Line.{Line}
 use Rattle.lines.specs.declared.Line.the-variants.{Sizes, Greatest, Degrees, Node}
 use Rattle.lines.specs.declared.generate.Number.{Number}
 use Rattle.lines.specs.Alist.{nodes, neighbours, degrees, greatest, fill}
-use Rattle.lines.specs.Sides.{graph, Ready, nodeCount, weightOf, restOf}
+use Rattle.exponent.specs.Tanner.{graphOf}
+use Rattle.lines.specs.Sides.{Ready, nodeCount, weightOf, restOf}
 
 -- the numbers of a line
 unfoldable pub lineOf : Bipartite → Line → List ℕ
@@ -46,8 +47,8 @@ mostOf l Checks = l .checks
 -- the layout is that of the plan
 pub record Measured (plan : List ℤ) (l : Layout) (down along : List ℕ) : Type 0 where
   pub ready : Ready plan (l .shape) down along
-  pub most-bits : l .bits ≡ greatest (degrees (graph plan (l .shape)) Bits)
-  pub most-checks : l .checks ≡ greatest (degrees (graph plan (l .shape)) Checks)
+  pub most-bits : l .bits ≡ greatest (degrees (graphOf plan (l .shape)) Bits)
+  pub most-checks : l .checks ≡ greatest (degrees (graphOf plan (l .shape)) Checks)
 
 abbrev pub widthOf : Layout → Line → ℕ
 widthOf l Sizes = 2
@@ -64,9 +65,9 @@ InLine l (Node side x) = x < nodeCount (l .shape) side
 
 -- the numbers of a line from its k-th on, where the blocks before `from` are done
 unfoldable pub lineRest : List ℤ → Layout → Line → ℕ → ℕ → List ℕ
-lineRest plan l Sizes k from = drop k (lineOf (graph plan (l .shape)) Sizes)
-lineRest plan l Greatest k from = drop k (lineOf (graph plan (l .shape)) Greatest)
-lineRest plan l (Degrees side) k from = drop k (lineOf (graph plan (l .shape)) (Degrees side))
+lineRest plan l Sizes k from = drop k (lineOf (graphOf plan (l .shape)) Sizes)
+lineRest plan l Greatest k from = drop k (lineOf (graphOf plan (l .shape)) Greatest)
+lineRest plan l (Degrees side) k from = drop k (lineOf (graphOf plan (l .shape)) (Degrees side))
 lineRest plan l (Node side x) k from = fill (mostOf l side - k) (map suc (restOf plan (l .shape) side x from))
 
 -- what goes from a number of a line to the next: of degrees the last one, which the nodes of a lane share

@@ -8,19 +8,15 @@ use lib.Dec.{ltb}
 use lib.IntN.{ℤ}
 use lib.ListN.{getD}
 use Rattle.graph.specs.Count.{range, one}
-use Rattle.graph.specs.Graph.{Bipartite}
 use Rattle.exponent.specs.declared.block.Block.{Block}
-use Rattle.exponent.specs.declared.index.Shape.{Shape}
+use Rattle.exponent.specs.declared.Shape.{Shape}
 use Rattle.exponent.specs.Plan.{blockAt, filled}
 use Rattle.exponent.specs.Limits.{WellFormed}
-use Rattle.exponent.specs.Tanner.{tanner, columnWeight, rowWeight}
-use Rattle.exponent.specs.Index.{DownIndex, AlongIndex}
+use Rattle.exponent.specs.Tanner.{columnWeight, rowWeight}
+use Rattle.index.specs.Index.{DownIndex, AlongIndex}
 use Rattle.exponent.specs.Neighbours.{gather, bitIn, checkIn}
 use Rattle.lines.specs.declared.sides.Side.{Side}
 use Rattle.lines.specs.declared.sides.Side.the-variants.{Bits, Checks}
-
-abbrev pub graph : List ℤ → Shape → Bipartite
-graph plan s = tanner plan (s .rows) (s .cols) (s .lift)
 
 -- a valid plan with its two index lists
 pub record Ready (plan : List ℤ) (s : Shape) (down along : List ℕ) : Type 0 where

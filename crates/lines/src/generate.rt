@@ -4,7 +4,7 @@ use crate::most_of;
 use crate::side_at;
 use crate::sides;
 use crate::sides::Side;
-use exponent::index::Shape;
+use exponent::Shape;
 ghost use mathlib.Core.Path.{_≡_};
 ghost use mathlib.Core.List.{_∷_};
 ghost use Prim.Native.Nat.{_+_, _/_, _%_, _<_};

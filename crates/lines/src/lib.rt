@@ -2,13 +2,13 @@
 ghost use mathlib.Core.Path.{_≡_};
 ghost use Prim.Native.Nat.{_+_, _<_};
 ghost use lib.ListN.{getD};
-ghost use Rattle.lines.specs.Sides.{Small, Ready, nodeCount};
+ghost use Rattle.lines.specs.Sides.{Small, Ready};
 ghost use Rattle.lines.specs.Lines.{sideAt, mostOf, Measured, widthOf, InLine, lineCount, order};
 
 pub mod generate; // generate.rt: the numbers of a line, one after the other
 pub mod sides; // sides.rt: bits and checks, their blocks and their degrees
 
-use exponent::index::Shape;
+use exponent::Shape;
 use sides::Side;
 
 // The sizes of a plan, and the greatest degree of a bit and of a check.

@@ -1,15 +1,14 @@
+use exponent::Shape;
 use exponent::block;
 use exponent::block::Block;
-use exponent::index;
-use exponent::index::Shape;
 use exponent::position;
 ghost use mathlib.Core.Path.{_≡_};
-ghost use Prim.Native.Nat.{_+_, _-_, _*_, _/_, _%_, _<_, _≤_};
+ghost use Prim.Native.Nat.{_+_, _-_, _*_, _<_, _≤_};
 ghost use lib.ListN.{length};
 ghost use Rattle.exponent.specs.Limits.{WellFormed};
-ghost use Rattle.exponent.specs.Tanner.{columnWeight, rowWeight};
+ghost use Rattle.exponent.specs.Tanner.{columnWeight, rowWeight, graphOf};
 ghost use Rattle.lines.specs.Alist.{degrees, greatest};
-ghost use Rattle.lines.specs.Sides.{graph, lanes, blocks, blockOn, nextBlock, filledOne, weightOf, nodeCount, turned, numberIn, Ready, Small};
+ghost use Rattle.lines.specs.Sides.{lanes, blocks, blockOn, nextBlock, filledOne, weightOf, nodeCount, turned, numberIn, Ready, Small};
 
 // The two sides of the graph. A bit's blocks are those of its column, a check's those of its row: a lane of blocks.
 pub enum Side {
@@ -135,7 +134,7 @@ pub fn weight(plan: &[i16], down: &[u16], along: &[u16], s: Shape, side: Side, l
 // The greatest degree of a side.
 pub fn most(plan: &[i16], down: &[u16], along: &[u16], s: Shape, side: Side) -> usize
     requires { ⌜ Ready (now plan) s (now down) (now along) ⌝ }
-    ensures { λ r. ⌜ r ≡ greatest (degrees (graph (now (plan .entry)) s) side) ⌝ }
+    ensures { λ r. ⌜ r ≡ greatest (degrees (graphOf (now (plan .entry)) s) side) ⌝ }
 {
     let n = lanes(s, side);
     let mut most = 0;

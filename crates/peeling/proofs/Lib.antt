@@ -1,5 +1,2 @@
-pub mod Unmarking
-pub mod Waiting
-pub mod Steps
 pub mod Ends
 pub mod Rules

@@ -4,16 +4,12 @@ ghost use Prim.Native.Nat.{ℕ, _*_, _≤_};
 ghost use lib.ListN.{length, getD};
 ghost use Rattle.exponent.specs.Limits.{WellFormed};
 ghost use Rattle.peeling.specs.Fill.{filling, filledOr, fillAnswer, fillWord};
-ghost use Rattle.peeling.specs.Work.{graphOf};
-
-mod work; // work.rt: filling forced erasures, marked until the end
-mod marks; // marks.rt: turning marked bytes back or into bits
-
+ghost use Rattle.exponent.specs.Tanner.{graphOf};
+use exponent::Shape;
 use exponent::Validity;
-use exponent::index;
-use exponent::index::Shape;
 use refusal::Refusal;
 use syndrome::byte;
+use worklist::marks;
 
 // The answer: how many of the word's erasures were filled, and how many are left.
 pub enum Filling {
@@ -29,8 +25,8 @@ fn fill_valid(plan: &[i16], shape: Shape, word: &mut [u8]) -> Filling
     let mut down = [0u16; index::PLACES];
     let mut along = [0u16; index::PLACES];
     index::build(plan, shape, &mut down, &mut along);
-    let filled = work::peel(plan, &down, &along, shape, word);
-    if work::has_clash(plan, &along, shape, word) {
+    let filled = worklist::peel(plan, &down, &along, shape, word);
+    if worklist::has_clash(plan, &along, shape, word) {
         marks::unmark_all(false, word);
         return Filling::Refused(Refusal::NoSolution);
     }

@@ -12,10 +12,10 @@ use Rattle.refusal.specs.Lowest.{lowest}
 use Rattle.refusal.specs.Place.{firstPlace}
 use Rattle.square.specs.Table.{quads, suppliedTable}
 use Rattle.table.specs.Build.{tableRules, maskRules, buildRules}
-use Rattle.tokens.specs.Decimal.{digits, decimal}
+use Rattle.decimal.specs.Decimal.{digits, decimal}
 use Rattle.tokens.specs.Tokens.{blank, blanks, token, start, tokenAt}
 use Rattle.lines.specs.Alist.{linesOf}
-use Rattle.alist.specs.Text.{item, lineFrom, textOf}
+use Rattle.lines.specs.Text.{item, lineFrom, textOf}
 use Rattle.alist.specs.Calls.{alistText, writeRules}
 use Rattle.planning.specs.Request.{valueFrom, numberOf, requestIn, requestOf}
 use Rattle.planning.specs.Output.{rowsOf, colsOf, cyclicRules, cyclicPlan, refusedLine, printed, outputFor, output}

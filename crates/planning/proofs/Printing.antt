@@ -22,11 +22,11 @@ use Rattle.girth.specs.declared.GirthTest.{GirthTest}
 use Rattle.girth.specs.declared.Outcome.the-variants.{Passed}
 use Rattle.girth.specs.Test.{allowed, Answer, refused, passed, failed}
 use Rattle.girth.proofs.Rules.{not-refused}
-use Rattle.tokens.specs.Decimal.{digits, decimal}
+use Rattle.decimal.specs.Decimal.{digits, decimal}
 use Rattle.alist.specs.declared.Written.the-variants as answer
 use Rattle.alist.specs.Calls.{alistText, roomRules, writeRules, written, laid}
-use Rattle.alist.specs.Steps.{Wrote}
-use Rattle.alist.proofs.Laid.{wrote-then}
+use Rattle.writing.specs.Wrote.{Wrote}
+use Rattle.writing.proofs.Wrote.{wrote-then}
 use Rattle.planning.specs.Output.{refusedLine, printed}
 use Rattle.planning.specs.Steps.{Printed}
 
@@ -62,7 +62,7 @@ pub line-wrote : {before one two after : List ℕ} {a b end count n : ℕ} (r : 
 unfolding refusedLine
 line-wrote {before} {one} {two} {after} {a} {b} {end} {count} {n} r e f g h k =
     let w = wrote-then f (wrote-then (subst (λ (m : ℕ). Wrote one a (decimal m) b two) e g) h) in
-    record { counted = omega (arith, k, w .place, ap length (w .text), length-sets before 0 (refusedLine r)); text = w .text }
+    record { counted = omega (arith, k, w .place, ap length (w .list), length-sets before 0 (refusedLine r)); text = w .list }
 
 -- as many bytes as are to be printed can be lent again, to be written out
 pub part-printed : (count room n : ℕ) (after : List ℕ) → n ≡ min count room → length after ≡ room → n ≡ length (take n after)

@@ -10,9 +10,9 @@ use Rattle.refusal.specs.Number.{number}
 use Rattle.refusal.specs.Lowest.{Rule, lowest}
 use Rattle.square.specs.declared.supply.Family.the-variants.{Cyclic}
 use Rattle.square.specs.Table.{suppliedTable}
-use Rattle.table.specs.Plan.{planRows, planCols}
+use Rattle.grid.specs.Plan.{planRows, planCols}
 use Rattle.table.specs.Build.{lent, buildRules, builtPlan}
-use Rattle.tokens.specs.Decimal.{decimal}
+use Rattle.decimal.specs.Decimal.{decimal}
 use Rattle.alist.specs.Calls.{alistText, writeRules}
 use Rattle.planning.specs.declared.request.Request.{Request}
 use Rattle.planning.specs.Request.{requestOf}

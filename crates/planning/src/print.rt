@@ -1,6 +1,5 @@
 use crate::number;
 use alist::Written;
-use alist::put;
 use girth::Outcome;
 use refusal::Refusal;
 use refusal::numbers;
@@ -11,7 +10,7 @@ ghost use Rattle.graph.specs.Girth.{Passes};
 ghost use Rattle.exponent.specs.Limits.{WellFormed};
 ghost use Rattle.exponent.specs.Tanner.{tanner};
 ghost use Rattle.alist.specs.Calls.{alistText, writeRules};
-ghost use Rattle.alist.specs.Steps.{Wrote};
+ghost use Rattle.writing.specs.Wrote.{Wrote};
 ghost use Rattle.planning.specs.Output.{refusedLine, printed};
 ghost use Rattle.planning.specs.Steps.{Printed};
 
@@ -23,7 +22,7 @@ fn put_bytes(text: &mut [u8], at: usize, bytes: &[u8]) -> usize
     let mut o = at;
     let mut k = 0;
     while k < bytes.len() {
-        o = put::put_byte(text, o, bytes[k]);
+        o = decimal::put_byte(text, o, bytes[k]);
         k += 1;
     }
     o
@@ -35,8 +34,8 @@ pub fn refused(r: Refusal, text: &mut [u8]) -> usize
 {
     let number = numbers::number_of(r) as usize;
     let a = put_bytes(text, 0, b"refused ");
-    let b = put::put_number(text, a, number);
-    let end = put::put_byte(text, b, 10);
+    let b = decimal::put_number(text, a, number);
+    let end = decimal::put_byte(text, b, 10);
     number::least(end, text.len())
 }
 

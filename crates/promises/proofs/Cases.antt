@@ -24,10 +24,10 @@ use Rattle.exponent.proofs.Rules.{inside, accepted}
 use Rattle.girth.specs.declared.GirthTest.{GirthTest}
 use Rattle.girth.specs.declared.Outcome.the-variants.{Passed, Failed, Refused}
 use Rattle.girth.specs.Test.{testRules, Answer, refused, passed, failed}
-use Rattle.girth.specs.Search.{model}
+use Rattle.girth.specs.Model.{model}
 use Rattle.girth.proofs.Cases.{computed}
 use Rattle.girth.proofs.Model.{model-answer}
-use Rattle.girth.proofs.OneRow.{one-row-passes}
+use Rattle.walks.proofs.OneRow.{one-row-passes}
 use Rattle.syndrome.specs.declared.Syndrome.the-variants.{Odd}
 use Rattle.syndrome.specs.Word.{byteRules, wordRules}
 use Rattle.syndrome.specs.Check.{checkRules, lowestOdd, syndromeOf}
@@ -36,11 +36,11 @@ use Rattle.peeling.specs.Fill.{fillRules, fillAnswer, fillWord}
 use Rattle.square.specs.Table.{quads, suppliedTable}
 use Rattle.square.specs.Mask.{maskAt, rowOnes, columnOnes, weighs, common, weight}
 use Rattle.table.specs.declared.Built.the-variants.{Built, Refused as NotBuilt}
-use Rattle.table.specs.Plan.{columns, rows, tablePlan}
+use Rattle.grid.specs.Plan.{columns, rows, tablePlan}
 use Rattle.table.specs.Build.{tableRules, maskRules, buildRules, builtPlan}
-use Rattle.tokens.specs.Decimal.{digits, decimal}
+use Rattle.decimal.specs.Decimal.{digits, decimal}
 use Rattle.lines.specs.Alist.{degrees, greatest, fill, lists, linesOf}
-use Rattle.alist.specs.Text.{item, lineFrom, textOf}
+use Rattle.lines.specs.Text.{item, lineFrom, textOf}
 use Rattle.alist.specs.Calls.{alistText}
 use Rattle.alist.proofs.FirstLine.{sizesLine, text-begins}
 use Rattle.promises.specs.Two.{Passing}

@@ -23,7 +23,7 @@ use Rattle.square.specs.Table.{tableAt, negative, unsound, firstRepeat}
 use Rattle.square.specs.Mask.{common, weight, Common}
 use Rattle.square.proofs.Repeats as repeats
 use Rattle.square.proofs.Weights.{weight-common, no-weight-exactly, weight-first, weight-is}
-use Rattle.table.specs.Plan.{planRows, planCols}
+use Rattle.grid.specs.Plan.{planRows, planCols}
 use Rattle.table.specs.Build.{supplyRules, unsoundAt, tableRules, maskRules, buildRules}
 use Rattle.promises.specs.TurnedAway.{LiftRow, row-3, SquareRow, row-7, row-8, IsNegative, TableRow, row-9, row-10, MaskRow, row-11, row-12, row-13, PlaceRow, row-15, _or_}
 use Rattle.promises.specs.TurnedAway as away

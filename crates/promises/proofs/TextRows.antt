@@ -18,7 +18,7 @@ use Rattle.tokens.specs.Tokens.{blank, start, tokenAt, stop, right, mismatch}
 use Rattle.tokens.proofs.Runs.{start-le, token-end, token-more, tokenAt-le, token-part, same-exactly, number-none}
 use Rattle.tokens.proofs.ByPlace.{start-from, before-start, at-start, start-is, start-none, in-token, behind-token, token-is}
 use Rattle.lines.specs.Alist.{alist}
-use Rattle.alist.specs.Text.{numbersOf}
+use Rattle.lines.specs.Text.{numbersOf}
 use Rattle.alist.specs.Calls.{alistText, roomRules, writeRules, found, placeOf, tokenRules, compareRules}
 use Rattle.promises.specs.TurnedAway.{PlanRow, RoomRow, row-17, IsBlank, tab, line-feed, carriage-return, space, NextToken, Says, FirstWrong, wrong, extra, early, go-on, TokenRow, row-21, _or_}
 use Rattle.promises.proofs.Matching.{Matches, join, one-rule}

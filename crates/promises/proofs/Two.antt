@@ -1,7 +1,7 @@
 -- Promise 2 holds: each sentence from the laws of its crate. Assumes nothing.
 use Prim.Native.Nat.{ℕ}
 use mathlib.Core.Path.{_≡_, refl, sym, ap, subst, subst₂, _∙_}
-use mathlib.Core.Bool.{true, false}
+use mathlib.Core.Bool.{false}
 use mathlib.Core.List.{List}
 use mathlib.Core.Option.{Option, none, some}
 use native.Mathlib.Omega.{arith}
@@ -21,15 +21,15 @@ use Rattle.exponent.specs.Limits.{planRules}
 use Rattle.exponent.specs.Tanner.{tanner}
 use Rattle.girth.specs.declared.GirthTest.{GirthTest}
 use Rattle.girth.specs.Test.{allowed, Witness, Answer, refused, passed, failed}
-use Rattle.girth.specs.Search.{model}
+use Rattle.girth.specs.Model.{model}
 use Rattle.girth.proofs.Model.{model-answer}
 use Rattle.girth.proofs.Rules.{not-refused as test-accepted}
 use Rattle.square.specs.Mask.{weight}
 use Rattle.table.specs.declared.Built.the-variants.{Built}
-use Rattle.table.specs.Plan.{planRows, planCols}
+use Rattle.grid.specs.Plan.{planRows, planCols}
 use Rattle.table.specs.Build.{lent, buildRules, builtPlan, built}
 use Rattle.table.proofs.Plans.{built-is-good}
-use Rattle.table.proofs.Source004.{built-from-004, built-shape-004}
+use Rattle.table.proofs.From004.{built-from-004, built-shape-004}
 use Rattle.syndrome.specs.Word.{wordRules}
 use Rattle.peeling.specs.declared.Filling.the-variants.{Filled}
 use Rattle.peeling.specs.Fill.{fillAnswer, fillWord}

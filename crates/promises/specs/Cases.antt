@@ -26,8 +26,8 @@ use Rattle.square.specs.Table.{suppliedTable}
 use Rattle.square.specs.Mask.{maskAt, weight}
 use Rattle.table.specs.declared.Built.{Built as BuiltAnswer}
 use Rattle.table.specs.declared.Built.the-variants.{Built, Refused as NotBuilt}
-use Rattle.table.specs.declared.grid.Column.{Column}
-use Rattle.table.specs.Plan.{columns}
+use Rattle.grid.specs.declared.Column.{Column}
+use Rattle.grid.specs.Plan.{columns}
 use Rattle.table.specs.Build.{buildRules, builtPlan, built}
 use Rattle.alist.specs.Calls.{alistText}
 use Rattle.promises.specs.Two.{Passing}

@@ -16,7 +16,7 @@ use Rattle.graph.specs.Erasure.{Solution}
 use Rattle.square.specs.declared.search.Quad.{Quad}
 use Rattle.square.specs.Table.{tableAt, Repeat, Before}
 use Rattle.square.specs.Mask.{Common}
-use Rattle.tokens.specs.Decimal.{decimal}
+use Rattle.decimal.specs.Decimal.{decimal}
 
 -- n is not from low to high
 abbrev pub Outside : ℕ → ℕ → ℕ → Type 0

@@ -21,7 +21,7 @@ use Rattle.square.specs.Table.{tableAt}
 use Rattle.square.specs.Mask.{maskAt, weight}
 use Rattle.table.specs.declared.Built.the-variants.{Built}
 use Rattle.table.specs.Build.{lent, buildRules, builtPlan, built}
-use Rattle.table.specs.Source004.{keptColumns, keptRows, target as target004, written}
+use Rattle.grid.specs.Source004.{keptColumns, keptRows, target as target004, written}
 use Rattle.peeling.specs.declared.Filling.the-variants.{Filled}
 use Rattle.peeling.specs.Fill.{fillAnswer, fillWord}
 

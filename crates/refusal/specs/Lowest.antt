@@ -1,8 +1,7 @@
 -- The lowest numbered refusal that applies (document 01, "Turned away"). A call lists its refusals in rising order of number,
 -- each with the test that says whether it applies; the answer is the first whose test holds.
-use Prim.Native.Nat.{ℕ, _≤_, _<_}
-use mathlib.Core.Path.{_≡_}
-use mathlib.Core.Bool.{Bool, true, false, cond, _&&_}
+use Prim.Native.Nat.{ℕ, _≤_}
+use mathlib.Core.Bool.{Bool, true, cond, _&&_}
 use mathlib.Core.List.{List, [], _∷_}
 use mathlib.Core.Option.{Option, none, some}
 use lib.Dec.{ltb}

@@ -68,7 +68,7 @@ pub record Inside (J : ℕ) (q : Quad) : Type 0 where
 module _ (J : ℕ) (some : 0 < J) where
   code-low : (q : Quad) → Inside J q → code J q < J * J * J * J
   unfolding code
-  code-low q h = number-low J some _ (q .t) (J * J * J) (number-low J some _ (q .r) (J * J) (number-low J some (q .i) (q .k) J (h .i-in) (h .k-in)) (h .r-in)) (h .t-in)
+  code-low q h = number-low _ (q .t) (J * J * J) J (number-low _ (q .r) (J * J) J (number-low (q .i) (q .k) J J (h .i-in) (h .k-in)) (h .r-in)) (h .t-in)
 
   quad-code : (q : Quad) → Inside J q → quad J (code J q) ≡ q
   unfolding code

@@ -1,19 +1,12 @@
--- What the inner functions require and ensure: squares, numbers by their digits, lines of the mask, and entries that are written
--- into a lent list from a place on.
+-- What the inner functions require and ensure: squares, numbers by their digits, and lines of the mask.
 use Prim.Native.Nat.{ℕ, _+_, _*_, _/_, _%_, _<_}
 use mathlib.Core.Path.{_≡_}
 use mathlib.Core.List.{List}
 use lib.Dec.{eqb}
 use lib.IntN.{ℤ}
 use lib.ListN.{length, getD}
-use lib.Seq.{sets}
 use Rattle.graph.specs.Count.{below, count}
 use Rattle.square.specs.declared.search.Quad.{Quad}
-
--- the list l with xs written from the place at on, and the place after them
-pub record Wrote {A : Type 0} (l : List A) (at : ℕ) (xs : List A) (l′ : List A) (at′ : ℕ) : Type 0 where
-  pub list : l′ ≡ sets l at xs
-  pub place : at′ ≡ at + length xs
 
 -- the lent table is square, of a small order
 pub record Square (order : ℕ) (table : List ℤ) : Type 0 where

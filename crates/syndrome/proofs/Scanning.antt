@@ -17,9 +17,9 @@ use Rattle.graph.proofs.Lists.{Mem, mem-left}
 use Rattle.graph.proofs.Count.{count-append}
 use Rattle.exponent.specs.declared.block.Block.{Block}
 use Rattle.exponent.specs.declared.block.Block.the-variants.{Zero, Shift, Invalid}
-use Rattle.exponent.specs.declared.index.Shape.{Shape}
+use Rattle.exponent.specs.declared.Shape.{Shape}
 use Rattle.exponent.specs.Plan.{blockAt, filled}
-use Rattle.exponent.specs.Index.{NextFrom, filledAt}
+use Rattle.index.specs.Index.{NextFrom, filledAt}
 use Rattle.exponent.specs.Tanner.{tanner}
 use Rattle.exponent.specs.Neighbours.{gather, bitIn}
 use Rattle.exponent.proofs.Blocks.{gather-last, gather-skip}

@@ -10,9 +10,9 @@ use Rattle.graph.specs.Erasure.{erased, total}
 use Rattle.graph.proofs.Lists.{Mem}
 use Rattle.exponent.specs.declared.block.Block.{Block}
 use Rattle.exponent.specs.declared.block.Block.the-variants.{Shift}
-use Rattle.exponent.specs.declared.index.Shape.{Shape}
+use Rattle.exponent.specs.declared.Shape.{Shape}
 use Rattle.exponent.specs.Limits.{WellFormed}
-use Rattle.exponent.specs.Index.{AlongIndex}
+use Rattle.index.specs.Index.{AlongIndex}
 use Rattle.exponent.specs.Neighbours.{gather, bitIn}
 use Rattle.syndrome.specs.declared.scan.Scan.{Scan}
 

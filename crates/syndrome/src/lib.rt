@@ -12,9 +12,8 @@ ghost use Rattle.syndrome.specs.Check.{syndromeOf, lowestOdd, found};
 pub mod byte; // byte.rt: what a byte of a word says
 pub mod scan; // scan.rt: the bits of one check
 
+use exponent::Shape;
 use exponent::Validity;
-use exponent::index;
-use exponent::index::Shape;
 use refusal::Refusal;
 
 // The answer: every check is even, or the lowest odd one.

@@ -1,7 +1,6 @@
+use exponent::Shape;
 use exponent::block;
 use exponent::block::Block;
-use exponent::index;
-use exponent::index::Shape;
 use exponent::position;
 ghost use Prim.Native.Nat.{_+_, _*_, _<_, _≤_};
 ghost use lib.ListN.{length};

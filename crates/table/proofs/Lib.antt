@@ -1,14 +1,6 @@
-pub mod Columns
 pub mod Written
 pub mod Rows
-pub mod Parts
-pub mod Listed
-pub mod Shape
 pub mod Accepted
-pub mod Moves
-pub mod Short
-pub mod Corner
-pub mod Edges
 pub mod Plans
 pub mod Bench
-pub mod Source004
+pub mod From004

@@ -1,32 +1,22 @@
--- A row and a column: their tests as the code makes them, and the entries of one column. Assumes nothing.
+-- The entries of one column, and of one row of a part. Assumes nothing.
 use Prim.Native.Nat.{ℕ, _+_, _/_, _%_}
-use mathlib.Core.Path.{_≡_, sym, ap, _∙_}
-use mathlib.Core.Bool.{Bool, true, false, _&&_}
+use mathlib.Core.Path.{_≡_, ap}
+use mathlib.Core.Bool.{Bool, true, false}
 use mathlib.Core.List.{List, [], _∷_}
-use lib.Dec.{eqb}
 use lib.IntN.{ℤ}
 use lib.ListN.{set}
-use borrow.Author.Tests.{eq-eqb, ne-eqb}
 use Rattle.square.specs.Each.{upon}
 use Rattle.square.specs.Table.{tableAt}
 use Rattle.square.specs.Mask.{maskAt}
-use Rattle.square.specs.Inner.{Wrote}
-use Rattle.square.proofs.Runs.{wrote-none, wrote-one}
-use Rattle.table.specs.declared.grid.Part.{Part}
-use Rattle.table.specs.declared.grid.Row.{Row}
-use Rattle.table.specs.declared.grid.Column.{Column}
+use Rattle.writing.specs.Wrote.{Wrote}
+use Rattle.writing.proofs.Wrote.{wrote-none, wrote-one}
+use Rattle.grid.specs.declared.Part.{Part}
+use Rattle.grid.specs.declared.Row.{Row}
+use Rattle.grid.specs.declared.Column.{Column}
 use Rattle.table.specs.declared.write.Size.{Size}
-use Rattle.table.specs.Plan.{rowAt, rowOf, meets, entry}
-use Rattle.table.specs.Write.{cell, cells, keeps, line}
-
-module _ (w : Row) (q : Column) (own : Row) (e : own ≡ rowAt (w .part) q) where
-  pub meets-one : w .one ≡ own .one → eqb (w .two) (own .two) ≡ meets w q
-  meets-one h =
-      ap (λ (x : Row). eqb (w .two) (x .two)) e
-      ∙ sym (ap (λ (b : Bool). b && eqb (w .two) (rowAt (w .part) q .two)) (eq-eqb _ _ (h ∙ ap (λ (x : Row). x .one) e)))
-
-  pub meets-none : (w .one ≡ own .one → ⊥) → false ≡ meets w q
-  meets-none h = sym (ap (λ (b : Bool). b && eqb (w .two) (rowAt (w .part) q .two)) (ne-eqb _ _ (λ k. h (k ∙ sym (ap (λ (x : Row). x .one) e)))))
+use Rattle.grid.specs.Plan.{rowOf, entry}
+use Rattle.grid.specs.Inner.{keeps}
+use Rattle.table.specs.Write.{cell, cells, line}
 
 -- the entries of one column
 module _ (size : Size) (table : List ℤ) (mask : List ℕ) (w : Row) (q : Column) where
@@ -38,10 +28,10 @@ module _ (size : Size) (table : List ℤ) (mask : List ℕ) (w : Row) (q : Colum
   cell-is b e = ap (λ (b : Bool). upon b (here ∷ [])) e
 
   pub cell-written : (plan : List ℤ) (at : ℕ) (x : ℤ) → maskAt (size .order) mask (q .j) (q .r) ≡ true → x ≡ entry (size .order) (size .lift) (tableAt (size .order) table) w q
-      → Wrote plan at (cell size table mask w q) (set plan at x) (at + 1)
+      → Wrote plan at (cell size table mask w q) (at + 1) (set plan at x)
   cell-written plan at x h f = rw (cell-is true h) (wrote-one plan at x here f)
 
-  pub cell-skipped : (plan : List ℤ) (at : ℕ) → maskAt (size .order) mask (q .j) (q .r) ≡ false → Wrote plan at (cell size table mask w q) plan at
+  pub cell-skipped : (plan : List ℤ) (at : ℕ) → maskAt (size .order) mask (q .j) (q .r) ≡ false → Wrote plan at (cell size table mask w q) at plan
   cell-skipped plan at h = rw (cell-is false h) (wrote-none plan at)
 
 -- the entries of one row of a part

@@ -8,17 +8,18 @@ use lib.ListN.{length, length-append}
 use Rattle.square.specs.Each.{each, upon, grid}
 use Rattle.square.specs.Table.{tableAt}
 use Rattle.square.specs.Mask.{maskAt}
-use Rattle.square.specs.Inner.{Wrote}
+use Rattle.writing.specs.Wrote.{Wrote}
 use Rattle.square.proofs.Each.{each-digits, map-each, map-upon, grid-append, grid-each, grid-upon}
-use Rattle.square.proofs.Runs.{wrote-more, wrote-all}
-use Rattle.table.specs.declared.grid.Part.{Part}
-use Rattle.table.specs.declared.grid.Part.the-variants.{AJ, AR, JR}
-use Rattle.table.specs.declared.grid.Row.{Row}
-use Rattle.table.specs.declared.grid.Column.{Column}
+use Rattle.writing.proofs.Wrote.{wrote-then, wrote-all}
+use Rattle.grid.specs.declared.Part.{Part}
+use Rattle.grid.specs.declared.Part.the-variants.{AJ, AR, JR}
+use Rattle.grid.specs.declared.Row.{Row}
+use Rattle.grid.specs.declared.Column.{Column}
 use Rattle.table.specs.declared.write.Size.{Size}
-use Rattle.table.specs.Plan.{columns, rows, rowOf, entry, tablePlan}
-use Rattle.table.specs.Write.{column, cell, cells, keeps, line, lines}
-use Rattle.table.proofs.Columns.{columns-are}
+use Rattle.grid.specs.Plan.{columns, rows, rowOf, entry, tablePlan}
+use Rattle.grid.specs.Inner.{column, keeps}
+use Rattle.table.specs.Write.{cell, cells, line, lines}
+use Rattle.grid.proofs.Columns.{columns-are}
 
 module _ (size : Size) (table : List ℤ) (mask : List ℕ) where
   abbrev J : ℕ
@@ -71,7 +72,7 @@ module _ (size : Size) (table : List ℤ) (mask : List ℕ) where
       pub sizes : length A₁ + (length A₂ + length A₃) ≡ length plan
       sizes = omega (arith, ap length parts-are, length-append A₁ (A₂ ++ A₃), length-append A₂ A₃)
 
-      pub all-written : (p₁ p₂ p₃ : List ℤ) (x y z : ℕ) → Wrote plan 0 A₁ p₁ x → Wrote p₁ x A₂ p₂ y → Wrote p₂ y A₃ p₃ z
+      pub all-written : (p₁ p₂ p₃ : List ℤ) (x y z : ℕ) → Wrote plan 0 A₁ x p₁ → Wrote p₁ x A₂ y p₂ → Wrote p₂ y A₃ z p₃
           → p₃ ≡ tablePlan J (size .weight) (size .lift) (tableAt J table) (maskAt J mask)
       all-written p₁ p₂ p₃ x y z a b c =
-          wrote-all plan p₃ (A₁ ++ (A₂ ++ A₃)) z (h ∙ ap length (sym parts-are)) (wrote-more a (wrote-more b c)) ∙ parts-are
+          wrote-all plan p₃ (A₁ ++ (A₂ ++ A₃)) z (h ∙ ap length (sym parts-are)) (wrote-then a (wrote-then b c)) ∙ parts-are

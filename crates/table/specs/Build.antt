@@ -20,7 +20,7 @@ use Rattle.table.specs.declared.Built.{Built as BuiltAnswer}
 use Rattle.table.specs.declared.Built.the-variants.{Built, Refused as NotBuilt}
 use Rattle.table.specs.declared.judge.Verdict.{Verdict}
 use Rattle.table.specs.declared.judge.Verdict.the-variants.{Accepted, Refused}
-use Rattle.table.specs.Plan.{planRows, planCols, tablePlan}
+use Rattle.grid.specs.Plan.{planRows, planCols, tablePlan}
 
 -- what lent memory holds: the new list, or what it held where there is a refusal
 abbrev pub lent : Option Refusal → List ℤ → List ℤ → List ℤ

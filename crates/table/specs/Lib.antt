@@ -1,4 +1,2 @@
-pub mod Plan
 pub mod Build
 pub mod Write
-pub mod Source004

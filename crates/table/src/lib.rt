@@ -7,7 +7,6 @@ ghost use Rattle.square.specs.Table.{suppliedTable};
 ghost use Rattle.square.specs.Mask.{weight};
 ghost use Rattle.table.specs.Build.{lent, supplyRules, supplied, buildRules, builtPlan, built};
 
-pub mod grid; // grid.rt: the plan's rows and columns, and the entry at both
 mod write; // write.rt: the plan, written row by row
 mod judge; // judge.rt: refusals 3, 7 to 13 and 15 in their order
 mod supply; // supply.rt: a supplied table, or refusals 7 and 8

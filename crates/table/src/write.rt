@@ -1,13 +1,12 @@
-use crate::grid;
-use crate::grid::Column;
-use crate::grid::Part;
-use crate::grid::Row;
+use grid::Column;
+use grid::Part;
+use grid::Row;
 ghost use mathlib.Core.Path.{_≡_};
 ghost use Prim.Native.Nat.{_+_, _*_, _<_, _≤_};
-ghost use lib.Dec.{eqb};
 ghost use lib.ListN.{length};
-ghost use Rattle.square.specs.Inner.{Wrote};
-ghost use Rattle.table.specs.Write.{Ready, Within, cell, cells, keeps, line, lines, planOf};
+ghost use Rattle.writing.specs.Wrote.{Wrote};
+ghost use Rattle.grid.specs.Inner.{Within, keeps};
+ghost use Rattle.table.specs.Write.{Ready, cell, cells, line, lines, planOf};
 
 // The numbers J, L and P of a plan.
 pub struct Size {
@@ -27,7 +26,7 @@ fn put_cell(
     at: usize,
 ) -> usize
     requires { ⌜ Ready size (now table) (now mask) × Within (size .order) q × (at + length (cell size (now table) (now mask) w q) ≤ length (now plan)) ⌝ }
-    ensures { λ e. ⌜ Wrote (now (plan .entry)) at (cell size (now (table .entry)) (now (mask .entry)) w q) (now (plan .exit)) e ⌝ }
+    ensures { λ e. ⌜ Wrote (now (plan .entry)) at (cell size (now (table .entry)) (now (mask .entry)) w q) e (now (plan .exit)) ⌝ }
 {
     let order = size.order;
     let j = q.j;
@@ -43,7 +42,7 @@ fn put_cell(
 // Writes the entries of row w.
 fn put_row(table: &[i16], mask: &[u8], size: Size, w: Row, plan: &mut [i16], at: usize) -> usize
     requires { ⌜ Ready size (now table) (now mask) × (at + length (cells size (now table) (now mask) w) ≤ length (now plan)) ⌝ }
-    ensures { λ e. ⌜ Wrote (now (plan .entry)) at (cells size (now (table .entry)) (now (mask .entry)) w) (now (plan .exit)) e ⌝ }
+    ensures { λ e. ⌜ Wrote (now (plan .entry)) at (cells size (now (table .entry)) (now (mask .entry)) w) e (now (plan .exit)) ⌝ }
 {
     let end = size.weight * size.order * size.order;
     let mut to = at;
@@ -52,17 +51,6 @@ fn put_row(table: &[i16], mask: &[u8], size: Size, w: Row, plan: &mut [i16], at:
         to = put_cell(table, mask, size, w, q, plan, to);
     }
     to
-}
-
-// Whether a part has a row, where the mask's byte at the row's pair is m.
-fn keeps(part: Part, m: u8) -> bool
-    ensures { λ b. ⌜ b ≡ keeps part (eqb m 1) ⌝ }
-{
-    match part {
-        Part::AJ => true,
-        Part::AR => true,
-        Part::JR => m == 1,
-    }
 }
 
 // Writes the entries of row n of a part, if the part has it.
@@ -76,12 +64,12 @@ fn put_line(
     at: usize,
 ) -> usize
     requires { ⌜ Ready size (now table) (now mask) × (n < size .order * size .order) × (at + length (line size (now table) (now mask) part n) ≤ length (now plan)) ⌝ }
-    ensures { λ e. ⌜ Wrote (now (plan .entry)) at (line size (now (table .entry)) (now (mask .entry)) part n) (now (plan .exit)) e ⌝ }
+    ensures { λ e. ⌜ Wrote (now (plan .entry)) at (line size (now (table .entry)) (now (mask .entry)) part n) e (now (plan .exit)) ⌝ }
 {
     let order = size.order;
     let u = n / order;
     let v = n % order;
-    if keeps(part, mask[u * order + v]) {
+    if grid::keeps(part, mask[u * order + v]) {
         let w = Row {
             part,
             one: u,
@@ -103,7 +91,7 @@ fn put_part(
     at: usize,
 ) -> usize
     requires { ⌜ Ready size (now table) (now mask) × (count ≤ size .order * size .order) × (at + length (lines size (now table) (now mask) part count) ≤ length (now plan)) ⌝ }
-    ensures { λ e. ⌜ Wrote (now (plan .entry)) at (lines size (now (table .entry)) (now (mask .entry)) part count) (now (plan .exit)) e ⌝ }
+    ensures { λ e. ⌜ Wrote (now (plan .entry)) at (lines size (now (table .entry)) (now (mask .entry)) part count) e (now (plan .exit)) ⌝ }
 {
     let mut to = at;
     for n in 0..count {

@@ -3,7 +3,7 @@ use Prim.Native.Nat.{ℕ}
 use mathlib.Core.Path.{_≡_, refl}
 use mathlib.Core.List.{List, [], _∷_}
 use mathlib.Core.Option.{Option, none, some}
-use Rattle.tokens.specs.Decimal.{digits, decimal}
+use Rattle.decimal.specs.Decimal.{digits, decimal}
 use Rattle.tokens.specs.Tokens.{blank, blanks, token, start, tokenAt, same, mismatch}
 
 -- the numbers of the alist of the one-row plan 0 1 at lift 2

@@ -5,7 +5,7 @@ use mathlib.Core.List.{List, [], _∷_}
 use mathlib.Core.Option.{Option, none, some}
 use lib.Dec.{eqb, ltb}
 use lib.ListN.{length, drop}
-use Rattle.tokens.specs.Decimal.{decimal}
+use Rattle.decimal.specs.Decimal.{decimal}
 
 -- tab, line feed, carriage return, space: what stands between tokens
 unfoldable pub blank : ℕ → Bool

@@ -1,15 +1,13 @@
 -- `girth::test` meets its contract: the plan's refusals, then the target's, and then the model's answer, which is one (`model-answers`).
 -- Assumes nothing.
-use Prim.Native.Nat.{ℕ}
-use mathlib.Core.Path.{_≡_, sym, ap, subst, _∙_}
-use mathlib.Core.Bool.{true, false}
-use mathlib.Core.Option.{none, some}
+use mathlib.Core.Path.{_≡_, sym, subst, _∙_}
+use mathlib.Core.Option.{none}
 use native.Mathlib.Omega.{arith}
 use borrow.Author.Needs.{needs}
 use Rattle.refusal.specs.Lowest.{lowest}
 use Rattle.exponent.specs.Limits.{planRules}
 use Rattle.exponent.proofs.Rules.{accepted, valid-none, refused-some}
-use Rattle.girth.specs.Test.{allowed, Answer, refused}
+use Rattle.girth.specs.Test.{Answer, refused}
 use Rattle.girth.proofs.Rules.{refused-plan, refused-target, not-refused}
 use Rattle.girth.proofs.Verdict.{allowed-rounds, model-answers}
 use Rattle.girth.proofs.test.Statement.{statement}

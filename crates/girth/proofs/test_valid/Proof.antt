@@ -5,7 +5,7 @@ use native.Mathlib.Nat.{mul-le-mul}
 use native.Mathlib.Omega.{arith}
 use lib.ListN.{length, replicate, length-replicate}
 use borrow.Author.Needs.{needs}
-use Rattle.exponent.proofs.Skips.{index-made, index-kept}
+use Rattle.index.proofs.Skips.{index-made, index-kept}
 use Rattle.girth.proofs.test_valid.Statement.{statement}
 use Rattle.girth.proofs.test_valid.Tie as tie
 

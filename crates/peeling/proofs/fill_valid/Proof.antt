@@ -3,7 +3,8 @@
 use mathlib.Core.Path.{sym, ap, _∙_}
 use native.Mathlib.Omega.{arith}
 use borrow.Author.Needs.{needs}
-use Rattle.exponent.proofs.Skips.{place-small, index-made, index-kept}
+use Rattle.exponent.proofs.Numbers.{place-small}
+use Rattle.index.proofs.Skips.{index-made, index-kept}
 use Rattle.peeling.specs.declared.Filling.the-variants.{Filled}
 use Rattle.peeling.proofs.Ends.{refused-answer, refused-word, filled-answer, filled-word}
 use Rattle.peeling.proofs.fill_valid.Statement.{statement}

@@ -4,7 +4,8 @@ use mathlib.Core.Path.{sym}
 use native.Mathlib.Omega.{arith}
 use borrow.Author.Needs.{needs}
 use borrow.Author.Tests.{lt-ltb, le-ltb}
-use Rattle.exponent.proofs.Skips.{place-small, index-made, index-kept}
+use Rattle.exponent.proofs.Numbers.{place-small}
+use Rattle.index.proofs.Skips.{index-made, index-kept}
 use Rattle.syndrome.proofs.Odds.{few-checks}
 use Rattle.syndrome.proofs.check_valid.Statement.{statement}
 use Rattle.syndrome.proofs.check_valid.Tie as tie

@@ -7,9 +7,8 @@ use borrow.Author.Needs.{needs}
 use Rattle.refusal.specs.Lowest.{lowest}
 use Rattle.refusal.proofs.Lowest.{lowest-accepted, lowest-refused}
 use Rattle.exponent.specs.Limits.{planRules, validity}
-use Rattle.exponent.proofs.Rules.{accepted}
+use Rattle.exponent.proofs.Rules.{accepted, valid-none, refused-some}
 use Rattle.syndrome.specs.Word.{wordRules}
-use Rattle.exponent.proofs.Rules.{valid-none, refused-some}
 use Rattle.syndrome.proofs.validate_word.Statement.{statement}
 use Rattle.syndrome.proofs.validate_word.Tie as tie
 

@@ -3,8 +3,8 @@
 use native.Mathlib.Omega.{arith}
 use borrow.Author.Needs.{needs}
 use Rattle.lines.specs.Alist.{linesOf}
-use Rattle.alist.specs.Text.{textOf}
-use Rattle.lines.specs.Sides.{graph}
+use Rattle.lines.specs.Text.{textOf}
+use Rattle.exponent.specs.Tanner.{graphOf}
 use Rattle.lines.proofs.Lanes.{small}
 use Rattle.alist.proofs.Laid.{put-roomy, put-short, put-done}
 use Rattle.alist.proofs.Bounds.{text-fits, layout-few, layout-most}
@@ -31,7 +31,7 @@ returns c =
     let p = c .before .before in
     let i = p .before .before in
     let t = start (i .before) in
-    put-roomy (t .args .text .now) (textOf (linesOf (graph (t .args .plan .now) (t .args .l .shape))))
+    put-roomy (t .args .text .now) (textOf (linesOf (graphOf (t .args .plan .now) (t .args .l .shape))))
     (omega (arith, layout-most _ _ _ _ (t .pre), i .before .most-bytes .ensures, i .if1 .taken)) _ _ _ (omega (arith, p .put-text .ensures .place)) (p .put-text .ensures)
 
 slice-relend-prefix-put-text : tie.Need-slice-relend-prefix-put-text

@@ -3,7 +3,8 @@ use mathlib.Core.Path.{ap}
 use native.Mathlib.Omega.{arith}
 use lib.ListN.{length}
 use borrow.Author.Needs.{needs}
-use Rattle.alist.proofs.Laid.{item-first, item-more, wrote-then}
+use Rattle.writing.proofs.Wrote.{wrote-then}
+use Rattle.alist.proofs.Laid.{item-first, item-more}
 use Rattle.alist.proofs.put.put_item.Statement.{statement}
 use Rattle.alist.proofs.put.put_item.Tie as tie
 

@@ -5,18 +5,19 @@ use mathlib.Core.Path.{_≡_, refl, _∙_}
 use mathlib.Core.List.{[], _∷_}
 use lib.ListN.{length}
 use borrow.Author.Needs.{needs}
-use Rattle.lines.specs.Sides.{graph}
+use Rattle.exponent.specs.Tanner.{graphOf}
 use Rattle.lines.specs.declared.Line.the-variants.{Node}
 use Rattle.lines.specs.Lines.{lineOf, lineRest}
 use Rattle.lines.proofs.Rest.{line-start, line-end, node-next}
-use Rattle.alist.specs.Text.{item, lineFrom}
-use Rattle.alist.proofs.Laid.{Going, going-start, part-room, part-done, last-done, lineFrom-next, lineFrom-end}
+use Rattle.lines.specs.Text.{item, lineFrom}
+use Rattle.writing.proofs.Wrote.{Going, going-start, part-room, part-done, last-done}
+use Rattle.alist.proofs.Laid.{lineFrom-next, lineFrom-end}
 use Rattle.alist.proofs.put.put_node.Statement.{statement}
 use Rattle.alist.proofs.put.put_node.Tie as tie
 
 abbrev Inv-loop : tie.InvT-loop
 Inv-loop text₀ at plan down along l side x w k₀ from₀ o₀ text k from o =
-    (length text ≡ length text₀) × Going text₀ at (lineFrom 0 (lineOf (graph plan (l .shape)) (Node side x))) (lineFrom k (lineRest plan l (Node side x) k from)) o text
+    (length text ≡ length text₀) × Going text₀ at (lineFrom 0 (lineOf (graphOf plan (l .shape)) (Node side x))) (lineFrom k (lineRest plan l (Node side x) k from)) o text
 
 abbrev μ-loop : tie.MeasureT-loop
 μ-loop text₀ at plan down along l side x w k₀ from₀ o₀ text k from o = w - k

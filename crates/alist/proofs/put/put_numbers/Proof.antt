@@ -5,18 +5,19 @@ use mathlib.Core.Path.{_≡_, refl, _∙_}
 use mathlib.Core.List.{[], _∷_}
 use lib.ListN.{length}
 use borrow.Author.Needs.{needs}
-use Rattle.lines.specs.Sides.{graph}
+use Rattle.exponent.specs.Tanner.{graphOf}
 use Rattle.lines.specs.Lines.{lineOf, lineRest, Carried}
 use Rattle.lines.proofs.Lanes.{small}
 use Rattle.lines.proofs.Rest.{line-start, line-end, carried-start}
-use Rattle.alist.specs.Text.{item, lineFrom}
-use Rattle.alist.proofs.Laid.{Going, going-start, part-room, part-done, last-done, lineFrom-next, lineFrom-end}
+use Rattle.lines.specs.Text.{item, lineFrom}
+use Rattle.writing.proofs.Wrote.{Going, going-start, part-room, part-done, last-done}
+use Rattle.alist.proofs.Laid.{lineFrom-next, lineFrom-end}
 use Rattle.alist.proofs.put.put_numbers.Statement.{statement}
 use Rattle.alist.proofs.put.put_numbers.Tie as tie
 
 abbrev Inv-loop : tie.InvT-loop
 Inv-loop text₀ at plan down along l line w k₀ from₀ o₀ text k from o =
-    (length text ≡ length text₀) × Going text₀ at (lineFrom 0 (lineOf (graph plan (l .shape)) line)) (lineFrom k (lineRest plan l line k from)) o text × Carried plan l line k from
+    (length text ≡ length text₀) × Going text₀ at (lineFrom 0 (lineOf (graphOf plan (l .shape)) line)) (lineFrom k (lineRest plan l line k from)) o text × Carried plan l line k from
 
 abbrev μ-loop : tie.MeasureT-loop
 μ-loop text₀ at plan down along l line w k₀ from₀ o₀ text k from o = w - k

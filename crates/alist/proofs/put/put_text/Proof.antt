@@ -8,18 +8,20 @@ use lib.ListN.{length}
 use borrow.Author.Needs.{needs}
 use Rattle.lines.specs.declared.sides.Side.the-variants.{Bits, Checks}
 use Rattle.lines.specs.Alist.{linesOf}
-use Rattle.lines.specs.Sides.{graph, Small}
+use Rattle.exponent.specs.Tanner.{graphOf}
+use Rattle.lines.specs.Sides.{Small}
 use Rattle.lines.specs.Lines.{lineOf}
 use Rattle.lines.proofs.Lanes.{small, nodes-few}
 use Rattle.lines.proofs.Rest.{linesFrom, lines-start, lines-next, lines-end}
-use Rattle.alist.specs.Text.{lineFrom, textOf}
-use Rattle.alist.proofs.Laid.{Going, going-start, part-room, part-done, all-done, text-next, text-end}
+use Rattle.lines.specs.Text.{lineFrom, textOf}
+use Rattle.writing.proofs.Wrote.{Going, going-start, part-room, part-done, all-done}
+use Rattle.alist.proofs.Laid.{text-next, text-end}
 use Rattle.alist.proofs.put.put_text.Statement.{statement}
 use Rattle.alist.proofs.put.put_text.Tie as tie
 
 abbrev Inv-loop : tie.InvT-loop
 Inv-loop text₀ plan down along l count i₀ o₀ text i o =
-    (length text ≡ length text₀) × Going text₀ 0 (textOf (linesOf (graph plan (l .shape)))) (textOf (linesFrom plan (l .shape) i)) o text
+    (length text ≡ length text₀) × Going text₀ 0 (textOf (linesOf (graphOf plan (l .shape)))) (textOf (linesFrom plan (l .shape) i)) o text
 
 abbrev μ-loop : tie.MeasureT-loop
 μ-loop text₀ plan down along l count i₀ o₀ text i o = count - i
@@ -27,7 +29,7 @@ abbrev μ-loop : tie.MeasureT-loop
 -- the line that a turn writes
 next : (c : tie.After-line-at Inv-loop μ-loop) → let a = c .before .before .before .before .before .before .before .args in
     linesFrom (a .plan .now) (a .l .shape) (c .before .before .loop .i)
-    ≡ lineOf (graph (a .plan .now) (a .l .shape)) (c .line-at .result) ∷ linesFrom (a .plan .now) (a .l .shape) (c .before .before .loop .i + 1)
+    ≡ lineOf (graphOf (a .plan .now) (a .l .shape)) (c .line-at .result) ∷ linesFrom (a .plan .now) (a .l .shape) (c .before .before .loop .i + 1)
 next c =
     let a = c .before .before .before .before .before .before .before .args in
     lines-next (a .plan .now) (a .l .shape) _ _ (rw (c .before .before .before .line-count .ensures) at (c .before .loop-test .taken)) (c .line-at .ensures .0)
@@ -50,7 +52,7 @@ put-line-requires c κs =
     let t = c .before .before .before .before .before .before .before .before in
     let i = c .before .before .before .loop .i in
     let line = c .before .line-at in
-    let here = lineFrom 0 (lineOf (graph (t .args .plan .now) (t .args .l .shape)) (line .result)) in
+    let here = lineFrom 0 (lineOf (graphOf (t .args .plan .now) (t .args .l .shape)) (line .result)) in
     let later = textOf (linesFrom (t .args .plan .now) (t .args .l .shape) (i + 1)) in
     let room = part-room here later (text-next _ _ _ (next (c .before))) (c .before .before .before .loop .inv .1) (2 ^ 64) (omega (arith, t .pre .1)) in
     (t .pre .0, line .ensures .1, room)

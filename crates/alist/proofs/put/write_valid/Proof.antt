@@ -1,11 +1,11 @@
 -- `alist::put::write_valid` meets its contract: with the index lists and the layout all lines are put. Assumes nothing.
 use mathlib.Core.Path.{ap}
 use borrow.Author.Needs.{needs}
-use Rattle.exponent.proofs.Skips.{index-made, index-kept}
-use Rattle.exponent.specs.declared.index.Shape.{Shape}
+use Rattle.index.proofs.Skips.{index-made, index-kept}
+use Rattle.exponent.specs.declared.Shape.{Shape}
 use Rattle.lines.specs.Alist.{linesOf}
-use Rattle.alist.specs.Text.{textOf}
-use Rattle.lines.specs.Sides.{graph}
+use Rattle.lines.specs.Text.{textOf}
+use Rattle.exponent.specs.Tanner.{graphOf}
 use Rattle.lines.proofs.Lanes.{index-room}
 use Rattle.alist.proofs.Laid.{put-same}
 use Rattle.alist.proofs.put.write_valid.Statement.{statement}
@@ -49,7 +49,7 @@ returns c =
     let p = c .before .before in
     let m = p .before .before .before .before in
     let a = m .before .before .before .before .before .before .before .before .before .args in
-    put-same _ _ _ _ _ (ap (λ (s : Shape). textOf (linesOf (graph (a .plan .now) s))) (m .measure .ensures .0)) (p .put-all .ensures)
+    put-same _ _ _ _ _ (ap (λ (s : Shape). textOf (linesOf (graphOf (a .plan .now) s))) (m .measure .ensures .0)) (p .put-all .ensures)
 
 pub write-valid-spec : {M : Type 1} → statement M
 write-valid-spec =

@@ -4,9 +4,9 @@ use Prim.Native.Nat.{_-_}
 use mathlib.Core.Path.{refl, sym, _∙_}
 use native.Mathlib.Omega.{arith}
 use borrow.Author.Needs.{needs}
-use Rattle.girth.specs.Search.{blocksOf}
-use Rattle.girth.proofs.Loops.{left-miss, left-hit, left-end}
-use Rattle.girth.proofs.Steps.{WalkLeft, walk-left}
+use Rattle.walks.specs.Search.{blocksOf}
+use Rattle.walks.proofs.Loops.{left-miss, left-hit, left-end}
+use Rattle.walks.proofs.Steps.{WalkLeft, walk-left}
 use Rattle.girth.proofs.search.closed_walk.Statement.{statement}
 use Rattle.girth.proofs.search.closed_walk.Tie as tie
 

@@ -1,7 +1,7 @@
 -- `lines::sides::block_on` meets its contract: the block is one of the plan's. Assumes nothing.
 use native.Mathlib.Omega.{arith}
 use borrow.Author.Needs.{needs}
-use Rattle.exponent.proofs.Skips.{place-low}
+use Rattle.exponent.proofs.Numbers.{number-low}
 use Rattle.lines.proofs.sides.block_on.Statement.{statement}
 use Rattle.lines.proofs.sides.block_on.Tie as tie
 
@@ -12,7 +12,7 @@ block-at-requires : tie.Need-block-at-requires
 block-at-requires c κs =
     let t = c .before .before in
     let side = c .enum-told .given .1 in
-    omega (arith, place-low (t .args .k) (t .args .lane) (t .args .s .rows) (t .args .s .cols) (rw side at (t .pre .2)) (rw side at (t .pre .1)), t .pre .0 .whole)
+    omega (arith, number-low (t .args .k) (t .args .lane) (t .args .s .rows) (t .args .s .cols) (rw side at (t .pre .2)) (rw side at (t .pre .1)), t .pre .0 .whole)
 
 enum-told-2 : tie.Need-enum-told-2
 enum-told-2 c = search needs
@@ -21,7 +21,7 @@ block-at-requires-2 : tie.Need-block-at-requires-2
 block-at-requires-2 c κs =
     let t = c .before .before in
     let side = c .enum-told2 .given .1 in
-    omega (arith, place-low (t .args .lane) (t .args .k) (t .args .s .rows) (t .args .s .cols) (rw side at (t .pre .1)) (rw side at (t .pre .2)), t .pre .0 .whole)
+    omega (arith, number-low (t .args .lane) (t .args .k) (t .args .s .rows) (t .args .s .cols) (rw side at (t .pre .1)) (rw side at (t .pre .2)), t .pre .0 .whole)
 
 returns : tie.Need-returns
 returns c = rw (c .before .enum-told .given .1) (c .block-at .ensures)

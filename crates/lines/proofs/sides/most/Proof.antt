@@ -6,14 +6,15 @@ use mathlib.Core.Logic.{⊎-elim}
 use native.Mathlib.Omega.{arith}
 use borrow.Author.Needs.{needs}
 use Rattle.lines.specs.Alist.{degrees, greatest}
-use Rattle.lines.specs.Sides.{graph, lanes, weightOf}
+use Rattle.exponent.specs.Tanner.{graphOf}
+use Rattle.lines.specs.Sides.{lanes, weightOf}
 use Rattle.lines.proofs.Lanes.{lanes-few, small}
 use Rattle.lines.proofs.Weights.{mostFrom, most-start, most-next, most-end}
 use Rattle.lines.proofs.sides.most.Statement.{statement}
 use Rattle.lines.proofs.sides.most.Tie as tie
 
 abbrev Inv-loop : tie.InvT-loop
-Inv-loop plan down along s side n most₀ lane₀ most lane = max most (mostFrom (weightOf plan s side) n lane) ≡ greatest (degrees (graph plan s) side)
+Inv-loop plan down along s side n most₀ lane₀ most lane = max most (mostFrom (weightOf plan s side) n lane) ≡ greatest (degrees (graphOf plan s) side)
 
 abbrev μ-loop : tie.MeasureT-loop
 μ-loop plan down along s side n most₀ lane₀ most lane = n - lane

@@ -2,7 +2,7 @@
 -- Assumes nothing.
 use native.Mathlib.Omega.{arith}
 use borrow.Author.Needs.{needs}
-use Rattle.exponent.proofs.Skips.{place-low}
+use Rattle.exponent.proofs.Numbers.{number-low}
 use Rattle.lines.proofs.sides.next_block.Statement.{statement}
 use Rattle.lines.proofs.sides.next_block.Tie as tie
 
@@ -13,7 +13,7 @@ next-requires : tie.Need-next-requires
 next-requires c κs =
     let t = c .before .before .before .before in
     let side = c .enum-told .given .1 in
-    omega (arith, place-low (t .args .k) (t .args .lane) (t .args .s .rows) (t .args .s .cols) (rw side at (t .pre .1)) (rw side at (t .pre .0)), t .pre .2)
+    omega (arith, number-low (t .args .k) (t .args .lane) (t .args .s .rows) (t .args .s .cols) (rw side at (t .pre .1)) (rw side at (t .pre .0)), t .pre .2)
 
 enum-told-2 : tie.Need-enum-told-2
 enum-told-2 c = search needs
@@ -22,7 +22,7 @@ next-requires-2 : tie.Need-next-requires-2
 next-requires-2 c κs =
     let t = c .before .before .before .before in
     let side = c .enum-told2 .given .1 in
-    omega (arith, place-low (t .args .lane) (t .args .k) (t .args .s .rows) (t .args .s .cols) (rw side at (t .pre .0)) (rw side at (t .pre .1)), t .pre .3)
+    omega (arith, number-low (t .args .lane) (t .args .k) (t .args .s .rows) (t .args .s .cols) (rw side at (t .pre .0)) (rw side at (t .pre .1)), t .pre .3)
 
 returns : tie.Need-returns
 returns c = rw (c .before .enum-told .given .1) (c .next .ensures)

@@ -8,7 +8,7 @@ use lib.ListN.{drop, replicate}
 use lib.Seq.{length-take-le}
 use borrow.Author.Needs.{needs}
 use Rattle.square.proofs.Places.{square}
-use Rattle.table.proofs.Columns.{cols-small, plan-small}
+use Rattle.grid.proofs.Columns.{cols-small, plan-small}
 use Rattle.planning.proofs.Plans.{side-small, lent-answer, lent-plan}
 use Rattle.planning.proofs.cyclic.build.Statement.{statement}
 use Rattle.planning.proofs.cyclic.build.Tie as tie

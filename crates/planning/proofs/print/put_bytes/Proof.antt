@@ -7,7 +7,7 @@ use native.Mathlib.Numerals.{add-one}
 use lib.ListN.{length, getD, drop, drop-of-length-le}
 use lib.Seq.{drop-cons}
 use borrow.Author.Needs.{needs}
-use Rattle.alist.proofs.Laid.{Going, going-start, part-room, part-done, all-done}
+use Rattle.writing.proofs.Wrote.{Going, going-start, part-room, part-done, all-done}
 use Rattle.planning.proofs.print.put_bytes.Statement.{statement}
 use Rattle.planning.proofs.print.put_bytes.Tie as tie
 

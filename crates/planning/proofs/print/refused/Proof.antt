@@ -4,7 +4,7 @@ use mathlib.Core.Path.{ap}
 use native.Mathlib.Omega.{arith}
 use lib.ListN.{length}
 use borrow.Author.Needs.{needs}
-use Rattle.tokens.specs.Decimal.{decimal}
+use Rattle.decimal.specs.Decimal.{decimal}
 use Rattle.planning.proofs.Printing.{number-short, line-wrote}
 use Rattle.planning.proofs.print.refused.Statement.{statement}
 use Rattle.planning.proofs.print.refused.Tie as tie

@@ -11,11 +11,12 @@ use borrow.Author.Needs.{needs}
 use Rattle.square.specs.declared.supply.Family.{Family}
 use Rattle.square.specs.Each.{each}
 use Rattle.square.specs.Table.{suppliedAt}
-use Rattle.square.specs.Inner.{Wrote}
+use Rattle.writing.specs.Wrote.{Wrote}
 use Rattle.square.proofs.Each.{length-ones, supplied-are}
 use Rattle.square.proofs.Places.{square, digit, first-digit}
 use Rattle.square.proofs.Tables.{supplied-small}
-use Rattle.square.proofs.Runs.{wrote-none, wrote-one, wrote-length, wrote-all, turn, done}
+use Rattle.writing.proofs.Wrote.{wrote-none, wrote-one, wrote-length, wrote-all}
+use Rattle.square.proofs.Runs.{turn, done}
 use Rattle.square.proofs.supply.put_table.Statement.{statement}
 use Rattle.square.proofs.supply.put_table.Tie as tie
 
@@ -23,7 +24,7 @@ abbrev number : Family → ℕ → ℕ → ℤ
 number family order n = pos (suppliedAt family order (n / order) (n % order))
 
 abbrev Inv-loop : tie.InvT-loop
-Inv-loop family order table₀ end n₀ table n = (n ≤ order * order) × Wrote table₀ 0 (each n (λ k. number family order k ∷ [])) table n
+Inv-loop family order table₀ end n₀ table n = (n ≤ order * order) × Wrote table₀ 0 (each n (λ k. number family order k ∷ [])) n table
 
 abbrev μ-loop : tie.MeasureT-loop
 μ-loop family order table₀ end n₀ table n = order * order - n

@@ -10,8 +10,7 @@ use lib.ListN.{length}
 use Rattle.graph.specs.Count.{range, below, one, count}
 use Rattle.graph.specs.Erasure.{erased}
 use Rattle.graph.specs.Filling.{erasures}
-use Rattle.graph.proofs.Count.{count-positions}
-use Rattle.graph.proofs.Count.{count-last}
+use Rattle.graph.proofs.Count.{count-positions, count-last}
 use Rattle.syndrome.proofs.byte.count_erasures.Statement.{statement}
 use Rattle.syndrome.proofs.byte.count_erasures.Tie as tie
 

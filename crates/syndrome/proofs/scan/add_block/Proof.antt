@@ -1,6 +1,6 @@
 -- `syndrome::scan::add_block` meets its contract: a block that is not filled adds no bit, and a shift the one that it has.
 -- Assumes nothing.
-use Prim.Native.Nat.{_+_, _*_, _%_, _<_}
+use Prim.Native.Nat.{_+_, _*_, _<_}
 use mathlib.Core.Path.{ap}
 use native.Mathlib.Nat.{mod-lt}
 use native.Mathlib.Omega.{arith}

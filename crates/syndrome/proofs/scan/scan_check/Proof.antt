@@ -6,10 +6,9 @@ use native.Mathlib.Nat.{mod-lt}
 use native.Mathlib.Omega.{arith}
 use borrow.Author.Needs.{needs}
 use Rattle.graph.specs.Count.{range}
-use Rattle.exponent.specs.Index.{NextFrom, filledAt}
+use Rattle.index.specs.Index.{NextFrom, filledAt}
 use Rattle.exponent.specs.Neighbours.{gather}
-use Rattle.exponent.proofs.Numbers.{block-low}
-use Rattle.exponent.proofs.Skips.{place-low}
+use Rattle.exponent.proofs.Numbers.{block-low, number-low}
 use Rattle.exponent.proofs.Tanner.{shift-low}
 use Rattle.syndrome.specs.Scan.{Scanned, Shifted}
 use Rattle.syndrome.proofs.Scanning.{scanned-none, rowBits, scanned-skip, scanned-block, scanned-row}
@@ -53,7 +52,7 @@ unfolding gather range
 loop-holds c = (search needs, search needs, search needs, scanned-none _)
 
 next-requires : tie.Need-next-requires Inv-loop μ-loop
-next-requires c κs = omega (arith, place-low _ _ _ _ (row-in c) (c .loop-test .taken), start c .pre .0 .indexed .whole)
+next-requires c κs = omega (arith, number-low _ _ _ _ (row-in c) (c .loop-test .taken), start c .pre .0 .indexed .whole)
 
 returns : tie.Need-returns Inv-loop μ-loop
 returns c =
@@ -64,7 +63,7 @@ returns c =
 block-at-requires : tie.Need-block-at-requires Inv-loop μ-loop
 block-at-requires c κs =
     let t = c .before .before in
-    omega (arith, place-low _ _ _ _ (row-in t) (c .if1 .left), start t .pre .0 .formed .whole)
+    omega (arith, number-low _ _ _ _ (row-in t) (c .if1 .left), start t .pre .0 .formed .whole)
 
 add-block-requires : tie.Need-add-block-requires Inv-loop μ-loop
 unfolding Shifted
@@ -75,7 +74,7 @@ add-block-requires c κs =
       λ e q. shift-low _ _ _ _ _ e (sym (c .block-at .ensures) ∙ q),
       mod-lt (a .c) (p .formed .some-lift),
       p .formed .small-lift,
-      omega (arith, place-low _ (a .shape .lift - 1) _ (a .shape .lift) (c .before .if1 .left) (omega (arith, p .formed .some-lift)), p .whole, p .formed .some-lift),
+      omega (arith, number-low _ (a .shape .lift - 1) _ (a .shape .lift) (c .before .if1 .left) (omega (arith, p .formed .some-lift)), p .whole, p .formed .some-lift),
       omega (arith, p .formed .few-cols),
       omega (arith, p .formed .few-cols),
     )

@@ -18,7 +18,7 @@ use Rattle.square.proofs.Weights.{weight-common, weight-is, first-line}
 use Rattle.table.specs.declared.judge.Verdict.{Verdict}
 use Rattle.table.specs.declared.judge.Verdict.the-variants.{Accepted}
 use Rattle.table.specs.Build.{maskRules, verdict}
-use Rattle.table.proofs.Columns.{cols-small, bits-small, plan-small}
+use Rattle.grid.proofs.Columns.{cols-small, bits-small, plan-small}
 use Rattle.table.proofs.judge.judge_mask.Statement.{statement}
 use Rattle.table.proofs.judge.judge_mask.Tie as tie
 

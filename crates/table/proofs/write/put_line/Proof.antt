@@ -5,7 +5,7 @@ use mathlib.Core.Bool.{true, false}
 use native.Mathlib.Omega.{arith}
 use borrow.Author.Needs.{needs}
 use Rattle.square.proofs.Places.{place, small-place, digit, first-digit}
-use Rattle.square.proofs.Runs.{wrote-none}
+use Rattle.writing.proofs.Wrote.{wrote-none}
 use Rattle.table.proofs.Rows.{line-is}
 use Rattle.table.proofs.write.put_line.Statement.{statement}
 use Rattle.table.proofs.write.put_line.Tie as tie

@@ -6,15 +6,16 @@ use native.Mathlib.Nat.{le-trans}
 use native.Mathlib.Omega.{arith}
 use lib.IntN.{ℤ}
 use Rattle.square.specs.Each.{each}
-use Rattle.square.specs.Inner.{Wrote}
+use Rattle.writing.specs.Wrote.{Wrote}
 use Rattle.square.proofs.Places.{square}
-use Rattle.square.proofs.Runs.{wrote-none, wrote-length, room, turn, done}
+use Rattle.writing.proofs.Wrote.{wrote-none, wrote-length}
+use Rattle.square.proofs.Runs.{room, turn, done}
 use Rattle.table.specs.Write.{line, lines}
 use Rattle.table.proofs.write.put_part.Statement.{statement}
 use Rattle.table.proofs.write.put_part.Tie as tie
 
 abbrev Inv-loop : tie.InvT-loop
-Inv-loop table mask size part count plan₀ at to₀ n₀ plan to n = (n ≤ count) × Wrote plan₀ at (each n (line size table mask part)) plan to
+Inv-loop table mask size part count plan₀ at to₀ n₀ plan to n = (n ≤ count) × Wrote plan₀ at (each n (line size table mask part)) to plan
 
 abbrev μ-loop : tie.MeasureT-loop
 μ-loop table mask size part count plan₀ at to₀ n₀ plan to n = count - n

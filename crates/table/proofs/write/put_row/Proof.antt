@@ -5,17 +5,19 @@ use mathlib.Core.List.{List}
 use native.Mathlib.Omega.{arith}
 use lib.IntN.{ℤ}
 use Rattle.square.specs.Each.{each}
-use Rattle.square.specs.Inner.{Wrote}
+use Rattle.writing.specs.Wrote.{Wrote}
 use Rattle.square.proofs.Places.{square, cube}
-use Rattle.square.proofs.Runs.{wrote-none, wrote-length, room, turn, done}
-use Rattle.table.specs.Write.{column, cell, cells}
-use Rattle.table.proofs.Columns.{column-within}
+use Rattle.writing.proofs.Wrote.{wrote-none, wrote-length}
+use Rattle.square.proofs.Runs.{room, turn, done}
+use Rattle.grid.specs.Inner.{column}
+use Rattle.table.specs.Write.{cell, cells}
+use Rattle.grid.proofs.Columns.{column-within}
 use Rattle.table.proofs.write.put_row.Statement.{statement}
 use Rattle.table.proofs.write.put_row.Tie as tie
 
 abbrev Inv-loop : tie.InvT-loop
 Inv-loop table mask size w plan₀ at end to₀ n₀ plan to n =
-    (n ≤ size .weight * size .order * size .order) × Wrote plan₀ at (each n (λ n. cell size table mask w (column (size .order) n))) plan to
+    (n ≤ size .weight * size .order * size .order) × Wrote plan₀ at (each n (λ n. cell size table mask w (column (size .order) n))) to plan
 
 abbrev μ-loop : tie.MeasureT-loop
 μ-loop table mask size w plan₀ at end to₀ n₀ plan to n = size .weight * size .order * size .order - n

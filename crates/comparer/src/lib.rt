@@ -1,0 +1,109 @@
+// The comparer of alist text: a lent text, token by token, against the lines of a plan.
+use exponent::Shape;
+use lines::Layout;
+use lines::Line;
+use lines::generate;
+use tokens::Cursor;
+use tokens::Step;
+ghost use mathlib.Core.Path.{_≡_};
+ghost use Prim.Native.Nat.{_≤_};
+ghost use lib.ListN.{length};
+ghost use Rattle.exponent.specs.Limits.{WellFormed};
+ghost use Rattle.tokens.specs.Tokens.{mismatch};
+ghost use Rattle.tokens.specs.Steps.{readLine};
+ghost use Rattle.lines.specs.Alist.{linesOf};
+ghost use Rattle.exponent.specs.Tanner.{graphOf};
+ghost use Rattle.lines.specs.Lines.{lineOf, Measured, InLine};
+ghost use Rattle.lines.specs.Text.{numbersOf};
+ghost use Rattle.comparer.specs.Verdict.{verdict};
+
+pub mod reader; // reader.rt: a lent text with the place that reading has come to
+
+// The text is the alist; or it differs first at this place.
+pub enum Verdict {
+    Same,
+    Differs(usize),
+}
+
+// Holds the next tokens to the numbers of a line.
+fn expect_line(
+    text: &[u8],
+    c: Cursor,
+    plan: &[i16],
+    down: &[u16],
+    along: &[u16],
+    l: Layout,
+    line: Line,
+) -> Step
+    requires { ⌜ Measured (now plan) l (now down) (now along) × InLine l line × (c .at ≤ length (now text)) ⌝ }
+    ensures { λ r. ⌜ r ≡ readLine (now (text .entry)) (c .at) (lineOf (graphOf (now (plan .entry)) (l .shape)) line) ⌝ }
+{
+    let w = lines::width(l, line);
+    let mut at = c.at;
+    let mut k = 0;
+    let mut from = 0;
+    while k < w {
+        let n = generate::number_at(plan, down, along, l, line, k, from);
+        match tokens::expect_number(text, Cursor { at }, n.value) {
+            Step::Next(next) => at = next.at,
+            Step::Wrong(p) => return Step::Wrong(p),
+        }
+        from = n.next;
+        k += 1;
+    }
+    Step::Next(Cursor { at })
+}
+
+// Holds the tokens from a place on to all lines; after them no token may follow.
+fn compare_lines(
+    text: &[u8],
+    c: Cursor,
+    plan: &[i16],
+    down: &[u16],
+    along: &[u16],
+    l: Layout,
+) -> Verdict
+    requires { ⌜ Measured (now plan) l (now down) (now along) × (c .at ≤ length (now text)) ⌝ }
+    ensures { λ r. ⌜ r ≡ verdict (mismatch (now (text .entry)) (c .at) (numbersOf (linesOf (graphOf (now (plan .entry)) (l .shape))))) ⌝ }
+{
+    let count = lines::line_count(l);
+    let mut at = c.at;
+    let mut i = 0;
+    while i < count {
+        let line = lines::line_at(l, i);
+        match expect_line(text, Cursor { at }, plan, down, along, l, line) {
+            Step::Next(next) => at = next.at,
+            Step::Wrong(p) => return Verdict::Differs(p),
+        }
+        i += 1;
+    }
+    let s = tokens::skip(text, at);
+    if s < text.len() {
+        Verdict::Differs(s)
+    } else {
+        Verdict::Same
+    }
+}
+
+// Compares a text, from a place on, with the alist of a valid plan.
+fn compare_from(text: &[u8], c: Cursor, plan: &[i16], s: Shape) -> Verdict
+    requires { ⌜ WellFormed (now plan) (s .rows) (s .cols) (s .lift) × (c .at ≤ length (now text)) ⌝ }
+    ensures { λ r. ⌜ r ≡ verdict (mismatch (now (text .entry)) (c .at) (numbersOf (linesOf (graphOf (now (plan .entry)) s)))) ⌝ }
+{
+    let mut down = [0u16; index::PLACES];
+    let mut along = [0u16; index::PLACES];
+    index::build(plan, s, &mut down, &mut along);
+    let l = lines::measure(plan, &down, &along, s);
+    compare_lines(text, c, plan, &down, &along, l)
+}
+
+// The same from any place: past the text's end the first number is missing.
+pub fn compare_at(text: &[u8], at: usize, plan: &[i16], s: Shape) -> Verdict
+    requires { ⌜ WellFormed (now plan) (s .rows) (s .cols) (s .lift) ⌝ }
+    ensures { λ r. ⌜ r ≡ verdict (mismatch (now (text .entry)) at (numbersOf (linesOf (graphOf (now (plan .entry)) s)))) ⌝ }
+{
+    if text.len() < at {
+        return Verdict::Differs(at);
+    }
+    compare_from(text, Cursor { at }, plan, s)
+}

@@ -1,0 +1,35 @@
+-- Where the search skips by an index, no step would be taken. Assumes nothing.
+use Prim.Native.Nat.{ℕ, _+_, _-_}
+use mathlib.Core.Path.{_≡_, subst}
+use mathlib.Core.Bool.{Bool, false}
+use mathlib.Core.List.{List}
+use native.Mathlib.Omega.{arith}
+use lib.Dec.{eqb}
+use lib.IntN.{ℤ}
+use Rattle.exponent.specs.declared.Shape.{Shape}
+use Rattle.exponent.specs.declared.position.Position.{Position}
+use Rattle.exponent.specs.Plan.{blockAt}
+use Rattle.exponent.specs.Position.{forward, back}
+use Rattle.index.specs.Index.{NextFrom, filledAt}
+use Rattle.walks.specs.declared.Step.{Step}
+use Rattle.walks.specs.declared.Step.the-variants.{Stay}
+use Rattle.walks.specs.Search.{blocksOf, toColumn, toRow, Result}
+use Rattle.walks.proofs.Loops.{Left, skip-by}
+use Rattle.walks.proofs.Steps.{stays}
+
+module _ {whole : Result} {step : ℕ → Step} {next : Position → Result} {n : ℕ} where
+  pub left-skip : {test : ℕ → Bool} {i m : ℕ} → NextFrom test i n m → ((k : ℕ) → test k ≡ false → step k ≡ Stay)
+      → Left whole step next n i → Left whole step next n m
+  left-skip {i = i} {m = m} f stay l =
+      let a = f .from-here in
+      let b = f .inside in
+      subst (Left whole step next n) (let z : i + (m - i) ≡ m = omega arith in z)
+      (skip-by (m - i) i (omega arith) (λ k p q. stay k (f .none-between k p (omega arith))) l)
+
+-- no step over a block that is not filled
+module _ (plan : List ℤ) (s : Shape) (p : Position) (k : ℕ) where
+  pub no-column : filledAt plan s (p .row) k ≡ false → toColumn (blocksOf plan s) p k ≡ Stay
+  no-column = stays (eqb k (p .col)) (blockAt plan (s .cols) (s .lift) (p .row) k) (forward (s .lift) p k)
+
+  pub no-row : filledAt plan s k (p .col) ≡ false → toRow (blocksOf plan s) p k ≡ Stay
+  no-row = stays (eqb k (p .row)) (blockAt plan (s .cols) (s .lift) k (p .col)) (back (s .lift) p k)

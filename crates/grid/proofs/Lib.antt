@@ -1,0 +1,10 @@
+pub mod Columns
+pub mod Parts
+pub mod Listed
+pub mod Meeting
+pub mod Shape
+pub mod Moves
+pub mod Short
+pub mod Corner
+pub mod Edges
+pub mod Source004

@@ -1,0 +1,3 @@
+pub mod Plan
+pub mod Inner
+pub mod Source004

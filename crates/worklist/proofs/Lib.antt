@@ -1,0 +1,3 @@
+pub mod Unmarking
+pub mod Waiting
+pub mod Steps
