@@ -16,12 +16,12 @@ use Rattle.exponent.specs.Limits.{planRules, validity, WellFormed}
 use Rattle.exponent.proofs.Rules.{accepted, valid-none, refused-some}
 use Rattle.tokens.specs.Tokens.{mismatch}
 use Rattle.lines.specs.Alist.{alist}
+use Rattle.lines.specs.Text.{numbersOf}
+use Rattle.comparer.specs.declared.Verdict.the-variants.{Same, Differs}
+use Rattle.comparer.specs.Verdict.{verdict}
 use Rattle.alist.specs.declared.Comparison.the-variants as answer
 use Rattle.alist.specs.declared.Comparison.the-variants.{Agrees}
-use Rattle.comparer.specs.declared.Verdict.the-variants.{Same, Differs}
-use Rattle.lines.specs.Text.{numbersOf}
 use Rattle.alist.specs.Calls.{alistText, roomRules, writeRules, tokenRules, compareRules, comparison}
-use Rattle.comparer.specs.Verdict.{verdict}
 
 -- computed, whatever the plan and the text are
 pub write-rise : (plan : List ℤ) (rows cols lift : ℕ) (place : List ℕ) → rising (writeRules plan rows cols lift place) ≡ true

@@ -15,19 +15,19 @@ use Rattle.graph.proofs.Count.{mem-select, length-map-below, length-range}
 use Rattle.graph.proofs.Neighbours.{mem-below}
 use Rattle.exponent.specs.declared.Shape.{Shape}
 use Rattle.exponent.specs.Limits.{WellFormed}
+use Rattle.exponent.specs.Tanner.{graphOf}
+use Rattle.decimal.specs.Decimal.{decimal}
+use Rattle.decimal.proofs.Digits.{length-small, length-below, length-four}
 use Rattle.lines.specs.declared.Layout.{Layout}
 use Rattle.lines.specs.declared.sides.Side.{Side}
 use Rattle.lines.specs.declared.sides.Side.the-variants.{Bits, Checks}
-use Rattle.decimal.specs.Decimal.{decimal}
 use Rattle.lines.specs.Alist.{nodes, neighbours, degrees, greatest, fill, lists, linesOf}
 use Rattle.lines.specs.Text.{item, lineFrom, textOf, numbersOf}
-use Rattle.exponent.specs.Tanner.{graphOf}
 use Rattle.lines.specs.Sides.{blocks, nodeCount}
 use Rattle.lines.specs.Lines.{Measured}
-use Rattle.alist.specs.Steps.{mostBytes}
-use Rattle.decimal.proofs.Digits.{length-small, length-below, length-four}
 use Rattle.lines.proofs.Lanes.{small, nodes-of, blocks-few, weight-le, degree-weight}
 use Rattle.lines.proofs.Weights.{most-few}
+use Rattle.alist.specs.Steps.{mostBytes}
 
 -- the numbers of a line are small
 abbrev Low : List ℕ → Type 0

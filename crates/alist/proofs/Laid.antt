@@ -12,12 +12,12 @@ use borrow.Author.Tests.{lt-ltb, le-ltb}
 use Rattle.refusal.specs.declared.Refusal.the-variants.{TextPlace}
 use Rattle.refusal.specs.Lowest.{lowest, refuse}
 use Rattle.refusal.proofs.Lowest.{lowest-here, lowest-next}
-use Rattle.alist.specs.declared.Written.{Written}
-use Rattle.alist.specs.declared.Written.the-variants as answer
+use Rattle.writing.specs.Wrote.{Wrote}
 use Rattle.decimal.specs.Decimal.{decimal}
 use Rattle.lines.specs.Text.{item, lineFrom, textOf}
+use Rattle.alist.specs.declared.Written.{Written}
+use Rattle.alist.specs.declared.Written.the-variants as answer
 use Rattle.alist.specs.Calls.{roomRules}
-use Rattle.writing.specs.Wrote.{Wrote}
 use Rattle.alist.specs.Steps.{Put}
 
 -- Numbers of a line: a space before each but the first.

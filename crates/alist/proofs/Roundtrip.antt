@@ -21,9 +21,9 @@ use Rattle.decimal.specs.Decimal.{digit, digits, decimal}
 use Rattle.tokens.specs.Tokens.{blank, blanks, token, start, tokenAt, stop, right, mismatch}
 use Rattle.tokens.proofs.Runs.{same-exactly}
 use Rattle.lines.specs.Alist.{alist}
+use Rattle.lines.specs.Text.{item, lineFrom, textOf, numbersOf}
 use Rattle.alist.specs.declared.Written.the-variants as answer
 use Rattle.alist.specs.declared.Comparison.the-variants.{Agrees}
-use Rattle.lines.specs.Text.{item, lineFrom, textOf, numbersOf}
 use Rattle.alist.specs.Calls.{alistText, roomRules, writeRules, written, laid, tokenRules, compareRules, comparison}
 
 -- Runs of blank bytes, and runs of digits, which are no blank bytes.

@@ -1,6 +1,5 @@
 -- The answers of the two calls: refusals 1 to 6 and 17, and 1 to 6 and 21 (document 01, "Turned away").
 use Prim.Native.Nat.{ℕ}
-use mathlib.Core.Bool.{Bool, true, false}
 use mathlib.Core.List.{List, [], _∷_, _++_}
 use mathlib.Core.Option.{Option, none, some}
 use lib.Dec.{ltb}
@@ -9,14 +8,15 @@ use lib.ListN.{length, drop}
 use Rattle.refusal.specs.declared.Refusal.{Refusal}
 use Rattle.refusal.specs.declared.Refusal.the-variants.{TextPlace, Token}
 use Rattle.refusal.specs.Lowest.{Rule, refuse}
+use Rattle.graph.specs.Count.{isSome}
 use Rattle.exponent.specs.Limits.{planRules}
 use Rattle.tokens.specs.Tokens.{mismatch}
 use Rattle.lines.specs.Alist.{alist}
+use Rattle.lines.specs.Text.{textOf, numbersOf}
 use Rattle.alist.specs.declared.Written.{Written}
 use Rattle.alist.specs.declared.Written.the-variants as answer
 use Rattle.alist.specs.declared.Comparison.{Comparison}
 use Rattle.alist.specs.declared.Comparison.the-variants.{Agrees, Refused}
-use Rattle.lines.specs.Text.{textOf, numbersOf}
 
 -- the alist of a plan as text
 abbrev pub alistText : List ℤ → ℕ → ℕ → ℕ → List ℕ
@@ -40,16 +40,12 @@ laid none text place = text ++ drop (length text) place
 laid (some r) text place = place
 
 -- 21: the place of a mismatch, where there is one
-abbrev pub found : Option ℕ → Bool
-found none = false
-found (some place) = true
-
 abbrev pub placeOf : Option ℕ → ℕ
 placeOf none = 0
 placeOf (some place) = place
 
 abbrev pub tokenRules : Option ℕ → List Rule
-tokenRules wrong = refuse (Token (placeOf wrong)) (found wrong) ∷ []
+tokenRules wrong = refuse (Token (placeOf wrong)) (isSome wrong) ∷ []
 
 unfoldable pub compareRules : List ℤ → ℕ → ℕ → ℕ → List ℕ → List Rule
 compareRules plan rows cols lift text = planRules plan rows cols lift ++ tokenRules (mismatch text 0 (numbersOf (alist plan rows cols lift)))

@@ -3,11 +3,11 @@ ghost use mathlib.Core.Path.{_≡_};
 ghost use lib.ListN.{length};
 ghost use Rattle.refusal.specs.Lowest.{lowest};
 ghost use Rattle.exponent.specs.Limits.{WellFormed};
+ghost use Rattle.exponent.specs.Tanner.{graphOf};
 ghost use Rattle.tokens.specs.Tokens.{mismatch};
 ghost use Rattle.lines.specs.Alist.{linesOf};
-ghost use Rattle.exponent.specs.Tanner.{graphOf};
-ghost use Rattle.alist.specs.Calls.{alistText, writeRules, written, laid, tokenRules, compareRules, comparison};
 ghost use Rattle.lines.specs.Text.{numbersOf};
+ghost use Rattle.alist.specs.Calls.{alistText, writeRules, written, laid, tokenRules, compareRules, comparison};
 
 mod put; // put.rt: lines and the whole text, written where there is room
 

@@ -9,14 +9,14 @@ use refusal::Refusal;
 ghost use mathlib.Core.Path.{_≡_};
 ghost use Prim.Native.Nat.{_+_, _<_, _≤_, _^_};
 ghost use lib.ListN.{length};
+ghost use Rattle.writing.specs.Wrote.{Wrote};
 ghost use Rattle.exponent.specs.Limits.{WellFormed};
+ghost use Rattle.exponent.specs.Tanner.{graphOf};
 ghost use Rattle.lines.specs.Alist.{linesOf};
 ghost use Rattle.lines.specs.Text.{item, lineFrom, textOf};
-ghost use Rattle.alist.specs.Calls.{alistText};
-ghost use Rattle.exponent.specs.Tanner.{graphOf};
 ghost use Rattle.lines.specs.Sides.{nodeCount, Small};
 ghost use Rattle.lines.specs.Lines.{lineOf, Measured, InLine};
-ghost use Rattle.writing.specs.Wrote.{Wrote};
+ghost use Rattle.alist.specs.Calls.{alistText};
 ghost use Rattle.alist.specs.Steps.{mostBytes, Put};
 
 // Writes the k-th number of a line, with a space before it unless it is the first.

@@ -16,8 +16,8 @@ use Rattle.tokens.specs.Steps.{readLine}
 use Rattle.tokens.proofs.Reading.{onStep, step-mismatch, read-append, past-number}
 use Rattle.lines.specs.declared.sides.Side.the-variants.{Bits}
 use Rattle.lines.specs.Alist.{nodes, linesOf}
-use Rattle.comparer.specs.declared.Verdict.the-variants.{Differs}
 use Rattle.lines.specs.Text.{numbersOf}
+use Rattle.comparer.specs.declared.Verdict.the-variants.{Differs}
 use Rattle.comparer.specs.Verdict.{verdict}
 
 -- a line, by the answer f

@@ -3,10 +3,10 @@ use exponent::Shape;
 use tokens::Step;
 ghost use mathlib.Core.Path.{_≡_};
 ghost use Rattle.exponent.specs.Limits.{WellFormed};
+ghost use Rattle.exponent.specs.Tanner.{graphOf};
 ghost use Rattle.tokens.specs.Tokens.{mismatch};
 ghost use Rattle.tokens.specs.Steps.{expectAt};
 ghost use Rattle.lines.specs.Alist.{linesOf};
-ghost use Rattle.exponent.specs.Tanner.{graphOf};
 ghost use Rattle.lines.specs.Text.{numbersOf};
 ghost use Rattle.comparer.specs.Verdict.{verdict};
 

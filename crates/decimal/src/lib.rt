@@ -3,8 +3,8 @@ ghost use mathlib.Core.Path.{_≡_};
 ghost use mathlib.Core.List.{[], _∷_};
 ghost use Prim.Native.Nat.{_+_, _/_, _%_, _<_, _^_};
 ghost use lib.ListN.{length};
-ghost use Rattle.decimal.specs.Decimal.{digit, decimal};
 ghost use Rattle.writing.specs.Wrote.{Wrote};
+ghost use Rattle.decimal.specs.Decimal.{digit, decimal};
 
 // Writes a byte where there is room, and returns the next place.
 pub fn put_byte(text: &mut [u8], at: usize, b: u8) -> usize

@@ -2,7 +2,7 @@
 -- both of this kind. Assumes nothing.
 use Prim.Native.Nat.{ℕ, zero, suc, _+_, _-_, _*_, _≤_, _<_}
 use mathlib.Core.Path.{_≡_, refl, sym, ap, ap₂, _∙_}
-use mathlib.Core.Bool.{Bool, true, false}
+use mathlib.Core.Bool.{Bool, false}
 use mathlib.Core.List.{List, [], _∷_, _++_, append-nil}
 use mathlib.Core.Option.{Option, none, some}
 use native.Mathlib.Omega.{arith}
@@ -10,26 +10,21 @@ use native.Mathlib.Nat.{suc-mul, zero-mul}
 use borrow.Author.Tests.{ne-eqb}
 use lib.Dec.{eqb, eqb·suc-suc}
 use lib.ListN.{length}
-use Rattle.graph.specs.Count.{range, below, select, one, count}
+use Rattle.graph.specs.Count.{range, below, select, one, count, isSome}
 use Rattle.graph.proofs.Count.{range-append, select-append, below-last}
 use Rattle.exponent.specs.Neighbours.{put, gather}
-
--- the number that a block has, if any
-abbrev pub picked : Option ℕ → Bool
-picked none = false
-picked (some x) = true
 
 abbrev pub hit : Option ℕ → ℕ → Bool
 hit none z = false
 hit (some x) z = eqb x z
 
-pub length-gather : (lift : ℕ) (pick : ℕ → Option ℕ) (l : List ℕ) → length (gather lift pick l) ≡ count (λ j. picked (pick j)) l
+pub length-gather : (lift : ℕ) (pick : ℕ → Option ℕ) (l : List ℕ) → length (gather lift pick l) ≡ count (λ j. isSome (pick j)) l
 unfolding gather count
 length-gather lift pick [] = refl
 length-gather lift pick (j ∷ l) = step (pick j) (length-gather lift pick l)
   where
-    step : (o : Option ℕ) → length (gather lift pick l) ≡ count (λ j. picked (pick j)) l
-        → length (put o (j * lift) (gather lift pick l)) ≡ one (picked o) + count (λ j. picked (pick j)) l
+    step : (o : Option ℕ) → length (gather lift pick l) ≡ count (λ j. isSome (pick j)) l
+        → length (put o (j * lift) (gather lift pick l)) ≡ one (isSome o) + count (λ j. isSome (pick j)) l
     step none e = omega arith
     step (some x) e = omega arith
 

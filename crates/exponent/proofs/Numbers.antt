@@ -1,12 +1,16 @@
 -- Numbers of checks and bits, and sums modulo the lift. Assumes nothing.
 use Prim.Native.Nat.{ℕ, _+_, _-_, _*_, _/_, _%_, _≤_, _<_}
-use mathlib.Core.Path.{_≡_, sym, ap, _∙_}
+use mathlib.Core.Path.{_≡_, sym, ap, ap₂, _∙_}
 use native.Mathlib.Omega.{arith}
-use native.Mathlib.Nat.{mul-add-div-right, mul-add-mod-self-right, mod-eq-of-lt, mod-lt, div-eq-of-lt, div-lt-iff-lt-mul, mul-le-mul, mul-le-mul-right, suc-mul, mod-add-mod, add-mod-mod, add-mod-right}
+use native.Mathlib.Nat.{mul-add-div-right, mul-add-mod-self-right, mod-eq-of-lt, mod-lt, div-eq-of-lt, div-lt-iff-lt-mul, mul-le-mul, mul-le-mul-right, suc-mul, div-add-mod', mod-add-mod, add-mod-mod, add-mod-right}
 
 -- number i * lift + y lies below n * lift; so does place (i, j) of a list of rows
 pub number-low : (i y n lift : ℕ) → i < n → y < lift → i * lift + y < n * lift
 number-low i y n lift h k = omega (arith, suc-mul i lift, mul-le-mul-right lift h)
+
+-- a number is told by its block and its place
+pub same-number : (lift a b : ℕ) → a / lift ≡ b / lift → a % lift ≡ b % lift → a ≡ b
+same-number lift a b p q = sym (div-add-mod' a lift) ∙ ap₂ (λ (x y : ℕ). x * lift + y) p q ∙ div-add-mod' b lift
 
 -- the places of a plan
 pub place-small : (rows cols : ℕ) → rows ≤ 192 → cols ≤ 512 → rows * cols ≤ 98304

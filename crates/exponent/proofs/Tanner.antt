@@ -12,7 +12,7 @@ use borrow.Author.Tests.{eqb-true, eq-eqb, ltb-true}
 use lib.Dec.{eqb, ltb}
 use lib.IntN.{ℤ, pos, negsuc}
 use lib.ListN.{getD, length}
-use Rattle.graph.specs.Count.{below}
+use Rattle.graph.specs.Count.{below, isSome}
 use Rattle.graph.specs.Graph.{Bipartite, bitsOf, checksOf}
 use Rattle.graph.specs.Stopping.{ThreeChecks}
 use Rattle.graph.proofs.Decide.{same-bool}
@@ -23,7 +23,7 @@ use Rattle.exponent.specs.Plan.{blockOf, entryAt, blockAt, filled}
 use Rattle.exponent.specs.Tanner.{edge, tanner, columnWeight, rowWeight, ThreeBlocks}
 use Rattle.exponent.specs.Neighbours.{gather, bitIn, checkIn}
 use Rattle.exponent.proofs.Numbers.{block-of, place-of, undo}
-use Rattle.exponent.proofs.Blocks.{picked, hit, length-gather, Picks, select-gather}
+use Rattle.exponent.proofs.Blocks.{hit, length-gather, Picks, select-gather}
 
 -- A shift lies below the lift, whatever the plan holds.
 
@@ -77,12 +77,12 @@ check-low lift z h Zero x e = absurd (let z : _≡_ {A = ℕ} 0 1 = cc in omega 
 check-low lift z h (Shift s) x e = let q : (z + (lift - s)) % lift ≡ x = cc in omega (arith, mod-lt (z + (lift - s)) h)
 check-low lift z h Invalid x e = absurd (let z : _≡_ {A = ℕ} 0 1 = cc in omega arith)
 
-picked-bit : (lift y : ℕ) (b : Block) → picked (bitIn lift y b) ≡ filled b
+picked-bit : (lift y : ℕ) (b : Block) → isSome (bitIn lift y b) ≡ filled b
 picked-bit lift y Zero = refl
 picked-bit lift y (Shift e) = refl
 picked-bit lift y Invalid = refl
 
-picked-check : (lift z : ℕ) (b : Block) → picked (checkIn lift z b) ≡ filled b
+picked-check : (lift z : ℕ) (b : Block) → isSome (checkIn lift z b) ≡ filled b
 picked-check lift z Zero = refl
 picked-check lift z (Shift e) = refl
 picked-check lift z Invalid = refl
@@ -128,14 +128,14 @@ module _ (plan : List ℤ) (rows cols lift : ℕ) (some-lift : 0 < lift) where
   check-degree i y p =
       ap length (bits-of-check i y p)
       ∙ length-gather lift (λ j. bitIn lift y (blockAt plan cols lift i j)) (below cols)
-      ∙ count-same (λ j. picked (bitIn lift y (blockAt plan cols lift i j))) (λ j. filled (blockAt plan cols lift i j)) (below cols) (λ j m. picked-bit lift y (blockAt plan cols lift i j))
+      ∙ count-same (λ j. isSome (bitIn lift y (blockAt plan cols lift i j))) (λ j. filled (blockAt plan cols lift i j)) (below cols) (λ j m. picked-bit lift y (blockAt plan cols lift i j))
 
   pub bit-degree : (j z : ℕ) → z < lift → length (checksOf (tanner plan rows cols lift) (j * lift + z)) ≡ columnWeight plan rows cols lift j
   unfolding columnWeight
   bit-degree j z q =
       ap length (checks-of-bit j z q)
       ∙ length-gather lift (λ i. checkIn lift z (blockAt plan cols lift i j)) (below rows)
-      ∙ count-same (λ i. picked (checkIn lift z (blockAt plan cols lift i j))) (λ i. filled (blockAt plan cols lift i j)) (below rows) (λ i m. picked-check lift z (blockAt plan cols lift i j))
+      ∙ count-same (λ i. isSome (checkIn lift z (blockAt plan cols lift i j))) (λ i. filled (blockAt plan cols lift i j)) (below rows) (λ i m. picked-check lift z (blockAt plan cols lift i j))
 
   -- at least three filled blocks in each column give every bit three checks
   pub three-checks : ThreeBlocks plan rows cols lift → ThreeChecks (tanner plan rows cols lift)

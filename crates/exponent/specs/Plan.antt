@@ -1,7 +1,7 @@
 -- The exponent matrix (document 01, "The plan and its graph"): a list of rows × cols signed numbers, row by row.
 use Prim.Native.Nat.{ℕ, zero, suc, _+_, _*_}
 use mathlib.Core.Bool.{Bool, true, false, cond}
-use mathlib.Core.List.{List}
+use mathlib.Core.List.{List, [], _∷_}
 use lib.Dec.{ltb}
 use lib.IntN.{ℤ, pos, negsuc}
 use lib.ListN.{getD}
@@ -27,6 +27,11 @@ isInvalid Invalid = true
 -- the entry that refusal 6 names
 abbrev pub invalidEntry : ℕ → ℤ → Bool
 invalidEntry lift entry = isInvalid (blockOf lift entry)
+
+-- filled blocks as entries, by their shifts
+abbrev pub shifts : List ℕ → List ℤ
+shifts [] = []
+shifts (e ∷ l) = pos e ∷ shifts l
 
 -- the entry at a place of the list
 unfoldable pub entryAt : List ℤ → ℕ → ℕ → Block

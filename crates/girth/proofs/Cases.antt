@@ -2,17 +2,17 @@
 use Prim.Native.Nat.{ℕ}
 use mathlib.Core.Path.{_≡_, refl}
 use mathlib.Core.List.{List, [], _∷_}
-use lib.IntN.{ℤ, pos}
+use lib.IntN.{ℤ}
 use Rattle.refusal.specs.declared.Refusal.the-variants.{Lift}
 use Rattle.refusal.specs.Lowest.{lowest}
 use Rattle.refusal.specs.Place.{firstPlace}
 use Rattle.graph.specs.Count.{member}
 use Rattle.exponent.specs.Limits.{planRules}
-use Rattle.exponent.specs.Plan.{entryAt, blockAt}
+use Rattle.exponent.specs.Plan.{shifts, entryAt, blockAt}
+use Rattle.walks.specs.Search.{firstOf, atCheck, closedWalk, trail}
 use Rattle.girth.specs.declared.GirthTest.{GirthTest}
 use Rattle.girth.specs.declared.Outcome.the-variants.{Passed, Failed, Refused}
 use Rattle.girth.specs.Test.{allowed, testRules, without-witness}
-use Rattle.walks.specs.Search.{firstOf, atCheck, closedWalk, trail}
 use Rattle.girth.specs.Model.{shortest, model}
 
 pub record Case : Type 0 where
@@ -23,12 +23,8 @@ pub record Case : Type 0 where
   pub target : ℕ
   pub answer : GirthTest
 
-abbrev entries : List ℕ → List ℤ
-entries [] = []
-entries (e ∷ l) = pos e ∷ entries l
-
 abbrev case : List ℕ → ℕ → ℕ → ℕ → ℕ → GirthTest → Case
-case l rows cols lift target answer = record { plan = entries l; rows = rows; cols = cols; lift = lift; target = target; answer = answer }
+case l rows cols lift target answer = record { plan = shifts l; rows = rows; cols = cols; lift = lift; target = target; answer = answer }
 
 abbrev shows : ℕ → List ℕ → List ℕ → GirthTest
 shows n checks bits = record { outcome = Failed; n = n; checks = checks; bits = bits }

@@ -17,16 +17,16 @@ use Rattle.graph.specs.Girth.{SimpleCycle, Passes}
 use Rattle.graph.proofs.Count.{member-mem}
 use Rattle.graph.proofs.Lists.{Mem}
 use Rattle.graph.proofs.Decide.{by-eq, by-le}
+use Rattle.exponent.specs.declared.Shape.{Shape}
 use Rattle.exponent.specs.Limits.{planRules}
+use Rattle.exponent.specs.Tanner.{graphOf}
 use Rattle.exponent.proofs.Rules.{inside}
+use Rattle.walks.specs.Search.{Blocks, blocksOf, Joint, Result, closedWalk, trail}
+use Rattle.walks.proofs.Simple.{checksIn, bitsIn, met-cycle, found-cycle}
 use Rattle.girth.specs.declared.GirthTest.{GirthTest}
 use Rattle.girth.specs.declared.Outcome.the-variants.{Passed, Failed}
-use Rattle.exponent.specs.declared.Shape.{Shape}
 use Rattle.girth.specs.Test.{targets, allowed, testRules, places, without-witness, Answer, passed, failed}
-use Rattle.walks.specs.Search.{Blocks, blocksOf, Joint, Result, closedWalk, trail}
 use Rattle.girth.specs.Model.{witness, unlessFound, shortest}
-use Rattle.exponent.specs.Tanner.{graphOf}
-use Rattle.walks.proofs.Simple.{checksIn, bitsIn, met-cycle, found-cycle}
 
 -- what the search says of a graph, in rounds of fewer than t checks
 pub data Verdict (G : Bipartite) (t : ℕ) : GirthTest → Type 0 where

@@ -37,6 +37,12 @@ length-range s zero = refl
 length-range s (suc n) = ap suc (length-range (suc s) n)
 
 -- a range in two parts
+pub getD-range : (s n i : ℕ) → i < n → getD (range s n) i 0 ≡ s + i
+unfolding range
+getD-range s zero i h = absurd (let z : ⊥ = omega arith in z)
+getD-range s (suc n) zero h = omega arith
+getD-range s (suc n) (suc i) h = omega (arith, getD-range (suc s) n i (omega arith))
+
 pub range-append : (s m n : ℕ) → range s (m + n) ≡ range s m ++ range (s + m) n
 unfolding range
 range-append s zero n = ap₂ range (sym (add-zero s)) (let e : 0 + n ≡ n = omega arith in e)

@@ -1,53 +1,70 @@
 -- From a closed walk to a simple cycle as lists of checks and bits. Assumes nothing.
 use Prim.Native.Nat.{ℕ, zero, suc, _+_, _*_, _≤_, _<_}
-use mathlib.Core.Path.{_≡_, refl, sym, ap}
+use mathlib.Core.Path.{_≡_, refl, sym, ap, subst, _∙_}
 use mathlib.Core.Logic.{inl, inr}
 use mathlib.Core.List.{List, [], _∷_, _++_}
+use mathlib.Core.Option.{Option, none, some, Option·none-ne-some}
 use native.Mathlib.Omega.{arith}
 use lib.ListN.{length, getD, length-append}
-use Rattle.graph.proofs.Lists.{Mem, Nodup, last, nodup-turn, last-append, nodup-getD}
 use Rattle.graph.specs.Graph.{Bipartite, Joined}
 use Rattle.graph.specs.Girth.{SimpleCycle, Passes}
+use Rattle.graph.proofs.Lists.{Mem, Nodup, last, nodup-turn, last-append, nodup-getD}
 use Rattle.graph.proofs.Walks.{Node, check, bit, Adj, Walk, Cycle, walk-left, last-adj}
 
-unfoldable pub checks-of : List Node → List ℕ
-checks-of [] = []
-checks-of (check c ∷ l) = c ∷ checks-of l
-checks-of (bit b ∷ l) = checks-of l
+-- the numbers of a list's vertices of one kind
+abbrev pub add : Option ℕ → List ℕ → List ℕ
+add none l = l
+add (some x) l = x ∷ l
 
-unfoldable pub bits-of : List Node → List ℕ
-bits-of [] = []
-bits-of (check c ∷ l) = bits-of l
-bits-of (bit b ∷ l) = b ∷ bits-of l
+unfoldable pub numbers : (Node → Option ℕ) → List Node → List ℕ
+numbers kind [] = []
+numbers kind (n ∷ l) = add (kind n) (numbers kind l)
 
-mem-checks : (c : ℕ) (l : List Node) → Mem c (checks-of l) → Mem (check c) l
-unfolding checks-of
-mem-checks c [] m = m
-mem-checks c (check d ∷ l) (inl e) = inl (ap check e)
-mem-checks c (check d ∷ l) (inr m) = inr (mem-checks c l m)
-mem-checks c (bit b ∷ l) m = inr (mem-checks c l m)
+module _ (kind : Node → Option ℕ) (make : ℕ → Node) (made : (n : Node) (x : ℕ) → kind n ≡ some x → make x ≡ n) where
+  mem-add : (x : ℕ) (n : Node) (l : List Node) (rest : List ℕ) → (Mem x rest → Mem (make x) l) → (o : Option ℕ) → kind n ≡ o → Mem x (add o rest) → Mem (make x) (n ∷ l)
+  mem-add x n l rest later none e m = inr (later m)
+  mem-add x n l rest later (some y) e (inl q) = inl (ap make q ∙ made n y e)
+  mem-add x n l rest later (some y) e (inr m) = inr (later m)
 
-mem-bits : (b : ℕ) (l : List Node) → Mem b (bits-of l) → Mem (bit b) l
-unfolding bits-of
-mem-bits b [] m = m
-mem-bits b (bit d ∷ l) (inl e) = inl (ap bit e)
-mem-bits b (bit d ∷ l) (inr m) = inr (mem-bits b l m)
-mem-bits b (check c ∷ l) m = inr (mem-bits b l m)
+  mem-numbers : (x : ℕ) (l : List Node) → Mem x (numbers kind l) → Mem (make x) l
+  unfolding numbers
+  mem-numbers x [] m = m
+  mem-numbers x (n ∷ l) m = mem-add x n l (numbers kind l) (mem-numbers x l) (kind n) refl m
 
-nodup-checks : (l : List Node) → Nodup l → Nodup (checks-of l)
-unfolding checks-of
-nodup-checks [] d = tt
-nodup-checks (check c ∷ l) d = (λ m. d .0 (mem-checks c l m), nodup-checks l (d .1))
-nodup-checks (bit b ∷ l) d = nodup-checks l (d .1)
+  nodup-add : (n : Node) (l : List Node) → Nodup (n ∷ l) → Nodup (numbers kind l) → (o : Option ℕ) → kind n ≡ o → Nodup (add o (numbers kind l))
+  nodup-add n l d h none e = h
+  nodup-add n l d h (some y) e = (λ m. d .0 (subst (λ (u : Node). Mem u l) (made n y e) (mem-numbers y l m)), h)
 
-nodup-bits : (l : List Node) → Nodup l → Nodup (bits-of l)
-unfolding bits-of
-nodup-bits [] d = tt
-nodup-bits (bit b ∷ l) d = (λ m. d .0 (mem-bits b l m), nodup-bits l (d .1))
-nodup-bits (check c ∷ l) d = nodup-bits l (d .1)
+  nodup-numbers : (l : List Node) → Nodup l → Nodup (numbers kind l)
+  unfolding numbers
+  nodup-numbers [] d = tt
+  nodup-numbers (n ∷ l) d = nodup-add n l d (nodup-numbers l (d .1)) (kind n) refl
+
+-- the checks and the bits of a list
+abbrev pub checkOf : Node → Option ℕ
+checkOf (check c) = some c
+checkOf (bit b) = none
+
+abbrev pub bitOf : Node → Option ℕ
+bitOf (check c) = none
+bitOf (bit b) = some b
+
+abbrev pub checks-of : List Node → List ℕ
+checks-of = numbers checkOf
+
+abbrev pub bits-of : List Node → List ℕ
+bits-of = numbers bitOf
+
+check-made : (n : Node) (x : ℕ) → checkOf n ≡ some x → check x ≡ n
+check-made (check c) x e = let same : c ≡ x = cc in ap check (sym same)
+check-made (bit b) x e = absurd (Option·none-ne-some x e)
+
+bit-made : (n : Node) (x : ℕ) → bitOf n ≡ some x → bit x ≡ n
+bit-made (check c) x e = absurd (Option·none-ne-some x e)
+bit-made (bit b) x e = let same : b ≡ x = cc in ap bit (sym same)
 
 both : (l : List Node) → length l ≡ length (checks-of l) + length (bits-of l)
-unfolding checks-of bits-of
+unfolding numbers
 both [] = refl
 both (check c ∷ l) = omega (arith, both l)
 both (bit b ∷ l) = omega (arith, both l)
@@ -64,7 +81,7 @@ Ring G z (c ∷ cs) [] = ⊥
 Ring G z (c ∷ cs) (b ∷ bs) = Joined G c b × Joined G (front cs z) b × Ring G z cs bs
 
 ring-of : (G : Bipartite) (z c : ℕ) (l : List Node) → Walk G (check c ∷ l) → Adj G (last (check c) l) (check z) → Ring G z (c ∷ checks-of l) (bits-of l)
-unfolding Adj Ring checks-of bits-of
+unfolding Adj Ring numbers
 ring-of G z c [] w a = absurd a
 ring-of G z c (check d ∷ l) w a = absurd (w .0 .0)
 ring-of G z c (bit b ∷ []) w a = (w .0 .0, a, tt)
@@ -112,7 +129,7 @@ module _ (G : Bipartite) where
   -- a closed walk that starts at the check c, its vertices distinct: its checks and its bits form a simple cycle
   pub walk-cycle : (c : ℕ) (l : List Node) → Walk G (check c ∷ l) → Adj G (last (check c) l) (check c) → Nodup (check c ∷ l) → 3 ≤ length (check c ∷ l)
       → SimpleCycle G (length (checks-of (check c ∷ l))) (checks-of (check c ∷ l)) (bits-of (check c ∷ l))
-  unfolding checks-of bits-of
+  unfolding numbers
   walk-cycle c l w a d long =
       let cs : List ℕ = c ∷ checks-of l in
       let bs : List ℕ = bits-of l in
@@ -126,8 +143,8 @@ module _ (G : Bipartite) where
         forth = ring-forth G c cs bs r;
         back = ring-back G c cs bs r;
         closes = ring-closes G c c (checks-of l) bs r;
-        checks-differ = nodup-getD cs 0 (nodup-checks (check c ∷ l) d);
-        bits-differ = λ i j h k. nodup-getD bs 0 (nodup-bits (check c ∷ l) d) i j h (omega arith);
+        checks-differ = nodup-getD cs 0 (nodup-numbers checkOf check check-made (check c ∷ l) d);
+        bits-differ = λ i j h k. nodup-getD bs 0 (nodup-numbers bitOf bit bit-made (check c ∷ l) d) i j h (omega arith);
       }
 
   from-check : (m c : ℕ) (l : List Node) → Walk G (check c ∷ l) → Adj G (last (check c) l) (check c) → Nodup (check c ∷ l)

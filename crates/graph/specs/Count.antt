@@ -2,6 +2,7 @@
 use Prim.Native.Nat.{ℕ, zero, suc, _+_}
 use mathlib.Core.Bool.{Bool, true, false, cond, _||_}
 use mathlib.Core.List.{List, [], _∷_}
+use mathlib.Core.Option.{Option, none, some}
 use lib.Dec.{eqb}
 
 -- start, start + 1, …: n numbers
@@ -31,3 +32,8 @@ count test (x ∷ l) = one (test x) + count test l
 unfoldable pub member : ℕ → List ℕ → Bool
 member x [] = false
 member x (y ∷ l) = eqb x y || member x l
+
+-- whether there is a number
+abbrev pub isSome : Option ℕ → Bool
+isSome none = false
+isSome (some x) = true

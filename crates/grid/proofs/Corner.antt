@@ -7,11 +7,11 @@ use native.Mathlib.Nat.{mod-lt}
 use native.Mathlib.Omega.{arith}
 use Rattle.square.specs.Table.{Sound}
 use Rattle.square.proofs.Congruent.{Congruent, of-mod, to-minus, close}
-use Rattle.grid.specs.Plan.{shiftAt}
-use Rattle.grid.specs.Inner.{Within}
 use Rattle.grid.specs.declared.Part.{Part}
 use Rattle.grid.specs.declared.Column.{Column}
 use Rattle.grid.specs.declared.Part.the-variants.{AJ, AR, JR}
+use Rattle.grid.specs.Plan.{shiftAt}
+use Rattle.grid.specs.Inner.{Within}
 use Rattle.grid.proofs.Moves.{Move}
 use Rattle.grid.proofs.Parts.{AJ≢AR, AJ≢JR, AR≢JR, free}
 

@@ -5,7 +5,7 @@ use mathlib.Core.Path.{_≡_, refl, sym, _∙_, ap, subst}
 use mathlib.Core.Logic.{_≢_}
 use mathlib.Core.Bool.{Bool, true, false}
 use mathlib.Core.List.{List, [], _∷_, map}
-use native.Mathlib.Nat.{mod-lt, mod-add-div', zero-mul, zero-add}
+use native.Mathlib.Nat.{mod-lt, zero-mul, zero-add}
 use native.Mathlib.Omega.{arith}
 use lib.Dec.{eqb}
 use lib.IntN.{ℤ, pos}
@@ -20,7 +20,7 @@ use Rattle.exponent.specs.declared.block.Block.{Block}
 use Rattle.exponent.specs.declared.block.Block.the-variants.{Shift}
 use Rattle.exponent.specs.Plan.{blockOf, invalidEntry, entryAt, blockAt, filled}
 use Rattle.exponent.specs.Tanner.{edge, tanner}
-use Rattle.exponent.proofs.Numbers.{block-low}
+use Rattle.exponent.proofs.Numbers.{same-number, block-low}
 use Rattle.square.specs.Each.{grid}
 use Rattle.square.specs.Table.{Sound, block}
 use Rattle.square.specs.Mask.{maskAt, Common}
@@ -80,9 +80,6 @@ same-point : (k : Part) (q w : Column) → rowAt k q ≡ rowAt k w → free k q 
 same-point AJ q w e f = λ i. record { a = e i .one; j = e i .two; r = f i }
 same-point AR q w e f = λ i. record { a = e i .one; j = f i; r = e i .two }
 same-point JR q w e f = λ i. record { a = f i; j = e i .one; r = e i .two }
-
-same-number : (P c d : ℕ) → c / P ≡ d / P → c % P ≡ d % P → c ≡ d
-same-number P c d e f = omega (arith, mod-add-div' c P, mod-add-div' d P, ap (_* P) e)
 
 -- the entry of a grid in row i and column j
 map-at : {A B : Type 0} (f : A → B) (l : List A) (d : A) (e : B) (i : ℕ) → i < length l → getD (map f l) i e ≡ f (getD l i d)

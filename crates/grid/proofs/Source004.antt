@@ -12,7 +12,7 @@ use lib.ListN.{length, getD, length-map}
 use borrow.Author.Tests.{eqb-true, lt-ltb, le-ltb, ltb-true, not-true}
 use Rattle.refusal.specs.Place.{firstPlace, somewhere}
 use Rattle.refusal.proofs.Place.{at-first}
-use Rattle.graph.specs.Count.{range, below, select, one, member}
+use Rattle.graph.specs.Count.{range, below, select, one, member, isSome}
 use Rattle.graph.proofs.Decide.{by-bool, by-eq, by-le, both-ways, and-left, and-right, same-bool}
 use Rattle.graph.proofs.Lists.{Mem, mem-left, mem-append, getD-mem}
 use Rattle.graph.proofs.Count.{mem-range, range-mem, range-append, select-append, member-mem, mem-member}
@@ -28,7 +28,7 @@ use Rattle.grid.specs.declared.Row.{Row}
 use Rattle.grid.specs.declared.Column.{Column}
 use Rattle.grid.specs.Plan.{Ones, columns, rows, rowOf, rowAt, shiftAt, meets, entry, planRows, planCols, tablePlan}
 use Rattle.grid.specs.Inner.{column}
-use Rattle.grid.specs.Source004.{S, W, C, E, deletedOnce, deleted, keptColumns, isNumber, keptRows, target, written}
+use Rattle.grid.specs.Source004.{S, W, C, E, deletedOnce, deleted, keptColumns, keptRows, target, written}
 use Rattle.grid.proofs.Listed.{mem-map, Column-in, mem-column, columns-selected, Fixed, part-selected}
 use Rattle.grid.proofs.Shape.{columns-count, rows-count, row-meets}
 
@@ -171,9 +171,9 @@ written-is : (P : ℕ) (m : Bool) (n : ℕ) → written P (cond m (some n) none)
 written-is P true n = refl
 written-is P false n = refl
 
-isNumber-is : (m : Bool) (n : ℕ) → isNumber (cond m (some n) none) ≡ m
-isNumber-is true n = refl
-isNumber-is false n = refl
+isSome-is : (m : Bool) (n : ℕ) → isSome (cond m (some n) none) ≡ m
+isSome-is true n = refl
+isSome-is false n = refl
 
 -- THE MATRIX, for a mask with a common weight
 module _ (J L : ℕ) (s : ℕ → ℕ → ℕ) (bytes : List ℕ) (w : Common J bytes L) where
@@ -339,8 +339,8 @@ module _ (J L : ℕ) (s : ℕ → ℕ → ℕ) (bytes : List ℕ) (w : Common J 
   unfolding keptRows
   rows-kept =
       select-same _ has (below (3 * (J * J))) λ i _.
-      ap (somewhere (λ c. isNumber (E J s i c))) columns-kept
-      ∙ ap (λ (f : ℕ → Bool). somewhere f cols) (fun-ext λ c. ap isNumber (E-is J s i c) ∙ isNumber-is (meets (rowName J i) (column J c)) _)
+      ap (somewhere (λ c. isSome (E J s i c))) columns-kept
+      ∙ ap (λ (f : ℕ → Bool). somewhere f cols) (fun-ext λ c. ap isSome (E-is J s i c) ∙ isSome-is (meets (rowName J i) (column J c)) _)
 
   rows-named : map (rowName J) (keptRows J L s (maskAt J bytes)) ≡ rows J L (maskAt J bytes)
   rows-named =

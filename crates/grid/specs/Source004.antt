@@ -1,13 +1,13 @@
 -- The matrix of source document 004 itself, by its formulas (section II, (1) to (5); section IV, Algorithm 1). `none` is ∞.
 -- B is the table: S_j = [s(j, 0), …, s(j, J − 1)] is its row j (5).
 use Prim.Native.Nat.{ℕ, suc, _+_, _-_, _*_, _/_, _%_}
-use mathlib.Core.Bool.{Bool, true, false, cond, not}
+use mathlib.Core.Bool.{cond, not}
 use mathlib.Core.List.{List, [], _∷_, _++_, map}
 use mathlib.Core.Option.{Option, none, some}
 use lib.Dec.{ltb, eqb}
 use lib.IntN.{ℤ, pos, negsuc}
 use Rattle.refusal.specs.Place.{somewhere}
-use Rattle.graph.specs.Count.{range, below, select, member}
+use Rattle.graph.specs.Count.{range, below, select, member, isSome}
 use Rattle.square.specs.Each.{each, upon, grid}
 use Rattle.grid.specs.Plan.{Ones}
 
@@ -55,12 +55,8 @@ deleted J L mask = each L (λ i. map (λ n. n + J * J * i) (deletedOnce J mask))
 unfoldable pub keptColumns : ℕ → ℕ → Ones → List ℕ
 keptColumns J L mask = select (λ c. not (member (suc c) (deleted J L mask))) (below (J * J * J))
 
-abbrev pub isNumber : Option ℕ → Bool
-isNumber none = false
-isNumber (some e) = true
-
 unfoldable pub keptRows : ℕ → ℕ → (ℕ → ℕ → ℕ) → Ones → List ℕ
-keptRows J L s mask = select (λ i. somewhere (λ c. isNumber (E J s i c)) (keptColumns J L mask)) (below (3 * (J * J)))
+keptRows J L s mask = select (λ i. somewhere (λ c. isSome (E J s i c)) (keptColumns J L mask)) (below (3 * (J * J)))
 
 -- the target matrix E', row by row
 unfoldable pub target : ℕ → ℕ → (ℕ → ℕ → ℕ) → Ones → List (Option ℕ)

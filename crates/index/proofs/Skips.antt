@@ -12,7 +12,8 @@ use lib.ListN.{length, getD, set, replicate, length-replicate}
 use lib.Seq.{getD-set-same, getD-set-other}
 use Rattle.graph.proofs.Decide.{by-eq, by-le}
 use Rattle.exponent.specs.declared.Shape.{Shape}
-use Rattle.exponent.proofs.Numbers.{number-low}
+use Rattle.exponent.specs.Limits.{WellFormed}
+use Rattle.exponent.proofs.Numbers.{number-low, place-small}
 use Rattle.index.specs.Index.{NextFrom, filledAt, IndexedAt, IndexedFrom, under}
 
 -- an index list as it is made, and after a call that kept its length: by a law, since counting its places would take long
@@ -21,6 +22,12 @@ index-made = sym (length-replicate {A = ℕ} 98304 0)
 
 pub index-kept : {n : ℕ} → n ≡ length (replicate {A = ℕ} 98304 0) → 98304 ≡ n
 index-kept e = sym (e ∙ length-replicate {A = ℕ} 98304 0)
+
+-- what `build` asks of arrays as they are made
+pub to-build : {plan : List ℤ} {rows cols lift : ℕ} → WellFormed plan rows cols lift
+    → WellFormed plan rows cols lift × (rows * cols ≤ length (replicate {A = ℕ} 98304 0)) × (rows * cols ≤ length (replicate {A = ℕ} 98304 0))
+to-build {rows = rows} {cols = cols} w =
+    let room = subst (λ (n : ℕ). rows * cols ≤ n) index-made (place-small rows cols (w .few-rows) (w .few-cols)) in (w, room, room)
 
 pub next-row : (i cols : ℕ) → (i + 1) * cols ≡ i * cols + cols
 next-row i cols = ap (λ (x : ℕ). x * cols) (add-one i) ∙ suc-mul i cols

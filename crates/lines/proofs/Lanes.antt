@@ -1,7 +1,7 @@
 -- The blocks of a lane: the filled ones, found by jumping from one to the next, and the neighbours that they give a node.
 -- Assumes nothing.
 use Prim.Native.Nat.{ℕ, zero, suc, _+_, _-_, _*_, _/_, _%_, _≤_, _<_}
-use mathlib.Core.Path.{_≡_, refl, sym, ap, subst, _∙_}
+use mathlib.Core.Path.{_≡_, refl, sym, ap, _∙_}
 use mathlib.Core.Bool.{Bool, true, false}
 use mathlib.Core.List.{List, [], _∷_}
 use mathlib.Core.Option.{Option, none, some}
@@ -9,7 +9,7 @@ use native.Mathlib.Omega.{arith}
 use native.Mathlib.Nat.{sub-zero, mod-lt, div-add-mod', div-lt-iff-lt-mul, mul-le-mul}
 use native.Mathlib.Numerals.{add-one}
 use lib.IntN.{ℤ}
-use lib.ListN.{length, replicate, length-replicate}
+use lib.ListN.{length}
 use borrow.Author.Tests.{lt-ltb, le-ltb}
 use Rattle.graph.specs.Count.{range, below, count}
 use Rattle.graph.proofs.Decide.{by-le, both-ways}
@@ -20,10 +20,9 @@ use Rattle.exponent.specs.declared.Shape.{Shape}
 use Rattle.exponent.specs.Plan.{filled}
 use Rattle.exponent.specs.Limits.{WellFormed}
 use Rattle.exponent.specs.Tanner.{tanner, columnWeight, rowWeight, graphOf}
-use Rattle.index.specs.Index.{NextFrom}
 use Rattle.exponent.specs.Neighbours.{gather}
-use Rattle.exponent.proofs.Numbers.{place-small}
 use Rattle.exponent.proofs.Tanner.{shift-low, bits-of-check, checks-of-bit, check-degree, bit-degree}
+use Rattle.index.specs.Index.{NextFrom}
 use Rattle.lines.specs.declared.sides.Side.{Side}
 use Rattle.lines.specs.declared.sides.Side.the-variants.{Bits, Checks}
 use Rattle.lines.specs.Alist.{nodes, neighbours}
@@ -105,13 +104,6 @@ module _ (s : Shape) (side : Side) (h : Small s) where
 
 pub node-lane : (s : Shape) (side : Side) (x : ℕ) → 0 < s .lift → x < nodeCount s side → x / s .lift < lanes s side
 node-lane s side x h k = div-lt-iff-lt-mul h .1 k
-
--- the arrays that the index lists are built in have a place for every block
-room : (places n : ℕ) → n ≤ places → n ≤ length {A = ℕ} (replicate places 0)
-room places n h = subst (λ (m : ℕ). n ≤ m) (sym (length-replicate {A = ℕ} places 0)) h
-
-pub index-room : (plan : List ℤ) (s : Shape) → WellFormed plan (s .rows) (s .cols) (s .lift) → s .rows * s .cols ≤ length {A = ℕ} (replicate 98304 0)
-index-room plan s w = room 98304 (s .rows * s .cols) (place-small (s .rows) (s .cols) (w .few-rows) (w .few-cols))
 
 -- A lane of a valid plan.
 

@@ -8,10 +8,11 @@ use native.Mathlib.Numerals.{add-one}
 use lib.IntN.{ℤ}
 use lib.ListN.{length, getD, drop, drop-of-length-le, length-append, length-map, List·getD-append, List·getD-map}
 use lib.Seq.{drop-cons, getD-append-add}
-use Rattle.graph.specs.Count.{range, below}
+use Rattle.graph.specs.Count.{below}
 use Rattle.graph.specs.Graph.{Bipartite}
-use Rattle.graph.proofs.Count.{length-range, getD-map-below, length-map-below}
+use Rattle.graph.proofs.Count.{length-range, getD-range, getD-map-below, length-map-below}
 use Rattle.exponent.specs.declared.Shape.{Shape}
+use Rattle.exponent.specs.Tanner.{graphOf}
 use Rattle.exponent.proofs.Numbers.{block-of}
 use Rattle.lines.specs.declared.sides.Side.{Side}
 use Rattle.lines.specs.declared.sides.Side.the-variants.{Bits, Checks}
@@ -20,7 +21,6 @@ use Rattle.lines.specs.declared.Line.{Line}
 use Rattle.lines.specs.declared.Line.the-variants.{Sizes, Greatest, Degrees, Node}
 use Rattle.lines.specs.declared.generate.Number.{Number}
 use Rattle.lines.specs.Alist.{nodes, neighbours, degrees, greatest, fill, lists, linesOf}
-use Rattle.exponent.specs.Tanner.{graphOf}
 use Rattle.lines.specs.Sides.{nodeCount, weightOf, restOf}
 use Rattle.lines.specs.Lines.{lineOf, order, sideAt, mostOf, Measured, widthOf, lineRest, Carried, Fills}
 use Rattle.lines.proofs.Lanes.{nodes-of, neighbours-rest, degree-weight}
@@ -144,12 +144,6 @@ getD-any {ℓ} : {A : Type ℓ} (l : List A) (i : ℕ) (a b : A) → i < length 
 getD-any [] i a b h = absurd (omega arith)
 getD-any (x ∷ l) zero a b h = refl
 getD-any (x ∷ l) (suc i) a b h = getD-any l i a b (omega arith)
-
-getD-range : (s n i : ℕ) → i < n → getD (range s n) i 0 ≡ s + i
-unfolding range
-getD-range s zero i h = absurd (omega arith)
-getD-range s (suc n) zero h = omega arith
-getD-range s (suc n) (suc i) h = let e = getD-range (suc s) n i (omega arith) in omega arith
 
 module _ (s : Shape) where
   abbrev nodesOf : Side → List Line

@@ -7,6 +7,7 @@ use lib.ListN.{drop}
 use Rattle.graph.specs.Count.{below}
 use Rattle.graph.specs.Graph.{Bipartite}
 use Rattle.exponent.specs.declared.Shape.{Shape}
+use Rattle.exponent.specs.Tanner.{graphOf}
 use Rattle.lines.specs.declared.sides.Side.{Side}
 use Rattle.lines.specs.declared.sides.Side.the-variants.{Bits, Checks}
 use Rattle.lines.specs.declared.Layout.{Layout}
@@ -14,7 +15,6 @@ use Rattle.lines.specs.declared.Line.{Line}
 use Rattle.lines.specs.declared.Line.the-variants.{Sizes, Greatest, Degrees, Node}
 use Rattle.lines.specs.declared.generate.Number.{Number}
 use Rattle.lines.specs.Alist.{nodes, neighbours, degrees, greatest, fill}
-use Rattle.exponent.specs.Tanner.{graphOf}
 use Rattle.lines.specs.Sides.{Ready, nodeCount, weightOf, restOf}
 
 -- the numbers of a line

@@ -13,8 +13,8 @@ use Rattle.exponent.specs.declared.Shape.{Shape}
 use Rattle.exponent.specs.Plan.{blockAt, filled}
 use Rattle.exponent.specs.Limits.{WellFormed}
 use Rattle.exponent.specs.Tanner.{columnWeight, rowWeight}
-use Rattle.index.specs.Index.{DownIndex, AlongIndex}
 use Rattle.exponent.specs.Neighbours.{gather, bitIn, checkIn}
+use Rattle.index.specs.Index.{DownIndex, AlongIndex}
 use Rattle.lines.specs.declared.sides.Side.{Side}
 use Rattle.lines.specs.declared.sides.Side.the-variants.{Bits, Checks}
 

@@ -20,10 +20,10 @@ use Rattle.graph.proofs.Decide.{by-le}
 use Rattle.graph.proofs.Count.{count-none}
 use Rattle.graph.proofs.Peeling.{erasures-count, filled-and-left}
 use Rattle.graph.proofs.Filling.{Derived, Completes, total-none, derived-start, left-largest, ends-filled, ends-clash}
-use Rattle.peeling.specs.declared.Filling.the-variants.{Filled, Refused}
-use Rattle.peeling.specs.Fill.{filling, filledOr}
 use Rattle.worklist.specs.Work.{unmarked, Working, Peeled}
 use Rattle.worklist.proofs.Unmarking.{unmarked-low, unmarked-high}
+use Rattle.peeling.specs.declared.Filling.the-variants.{Filled, Refused}
+use Rattle.peeling.specs.Fill.{filling, filledOr}
 
 -- a byte of the work, kept: it is an erasure where it was, its parity stays, and it is what it was or a filled erasure
 record Kept (x : ℕ) : Type 0 where

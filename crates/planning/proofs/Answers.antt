@@ -14,9 +14,9 @@ use Rattle.refusal.specs.Lowest.{lowest}
 use Rattle.graph.specs.Girth.{Passes}
 use Rattle.exponent.specs.Limits.{WellFormed}
 use Rattle.exponent.specs.Tanner.{tanner}
+use Rattle.grid.specs.Plan.{planRows, planCols}
 use Rattle.table.specs.declared.Built.{Built as BuiltAnswer}
 use Rattle.table.specs.declared.Built.the-variants.{Built, Refused}
-use Rattle.grid.specs.Plan.{planRows, planCols}
 use Rattle.table.specs.Build.{lent, built}
 use Rattle.alist.specs.Calls.{alistText, writeRules}
 use Rattle.planning.specs.declared.request.Request.{Request}

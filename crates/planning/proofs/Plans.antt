@@ -25,8 +25,8 @@ use Rattle.square.specs.declared.supply.Family.the-variants.{Cyclic}
 use Rattle.square.specs.Table.{suppliedTable}
 use Rattle.square.specs.Mask.{rowOnes, columnOnes, weighs, weight}
 use Rattle.square.proofs.Places.{square as product}
-use Rattle.table.specs.declared.Built.the-variants.{Built}
 use Rattle.grid.specs.Plan.{planRows, planCols}
+use Rattle.table.specs.declared.Built.the-variants.{Built}
 use Rattle.table.specs.Build.{lent, supplyRules, tableRules, buildRules, builtPlan, built}
 use Rattle.table.proofs.Accepted.{taken}
 use Rattle.table.proofs.Plans.{GoodPlan, built-is-good}

@@ -9,12 +9,15 @@ use lib.ListN.{length, take, drop}
 use lib.Seq.{sets, sets-eq, length-sets, length-take-le}
 use borrow.Author.Tests.{ltb-false}
 use Rattle.refusal.specs.declared.Refusal.{Refusal}
-use Rattle.refusal.specs.declared.Refusal.the-variants.{Rows, Cols, Lift, Bits, PlanLength, Entry, Order, TableLength, NegativeEntry, Unsound, MaskByte, MaskWeight, TableBits, Target, PlanPlace, WordLength, TextPlace, Byte, Erasure, NoSolution, Token}
 use Rattle.refusal.specs.Number.{number}
 use Rattle.refusal.specs.Lowest.{lowest}
+use Rattle.refusal.proofs.Number.{number-range}
 use Rattle.refusal.proofs.Lowest.{none-holds, none-append}
 use Rattle.graph.specs.Count.{member}
 use Rattle.graph.specs.Girth.{Passes}
+use Rattle.graph.proofs.Decide.{by-le}
+use Rattle.writing.specs.Wrote.{Wrote}
+use Rattle.writing.proofs.Wrote.{wrote-then}
 use Rattle.exponent.specs.Limits.{planRules, WellFormed}
 use Rattle.exponent.specs.Tanner.{tanner}
 use Rattle.exponent.proofs.Rules.{accepted}
@@ -22,38 +25,19 @@ use Rattle.girth.specs.declared.GirthTest.{GirthTest}
 use Rattle.girth.specs.declared.Outcome.the-variants.{Passed}
 use Rattle.girth.specs.Test.{allowed, Answer, refused, passed, failed}
 use Rattle.girth.proofs.Rules.{not-refused}
-use Rattle.decimal.specs.Decimal.{digits, decimal}
+use Rattle.decimal.specs.Decimal.{decimal}
+use Rattle.decimal.proofs.Digits.{length-small, length-below}
 use Rattle.alist.specs.declared.Written.the-variants as answer
 use Rattle.alist.specs.Calls.{alistText, roomRules, writeRules, written, laid}
-use Rattle.writing.specs.Wrote.{Wrote}
-use Rattle.writing.proofs.Wrote.{wrote-then}
 use Rattle.planning.specs.Output.{refusedLine, printed}
 use Rattle.planning.specs.Steps.{Printed}
 
 -- a refusal's number has at most two digits
 pub number-short : (r : Refusal) → length (decimal (number r)) ≤ 2
-unfolding decimal digits
-number-short Rows = omega arith
-number-short Cols = omega arith
-number-short Lift = omega arith
-number-short Bits = omega arith
-number-short PlanLength = omega arith
-number-short (Entry p) = omega arith
-number-short Order = omega arith
-number-short TableLength = omega arith
-number-short (NegativeEntry p) = omega arith
-number-short (Unsound i k r t) = omega arith
-number-short MaskByte = omega arith
-number-short MaskWeight = omega arith
-number-short TableBits = omega arith
-number-short Target = omega arith
-number-short PlanPlace = omega arith
-number-short WordLength = omega arith
-number-short (TextPlace n) = omega arith
-number-short (Byte p) = omega arith
-number-short (Erasure p) = omega arith
-number-short NoSolution = omega arith
-number-short (Token p) = omega arith
+number-short r =
+    by-le 10 (number r)
+    (λ h. omega (arith, length-below (number r) .0 (h, let e = number-range r in omega arith)))
+    (λ h. omega (arith, length-small (number r) (omega arith)))
 
 -- the line of a refusal: three runs of bytes one after the other, as far as there is room
 pub line-wrote : {before one two after : List ℕ} {a b end count n : ℕ} (r : Refusal) → n ≡ number r

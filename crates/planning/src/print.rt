@@ -7,10 +7,10 @@ ghost use Prim.Native.Nat.{_+_, _<_, _^_};
 ghost use lib.ListN.{length};
 ghost use Rattle.refusal.specs.Lowest.{lowest};
 ghost use Rattle.graph.specs.Girth.{Passes};
+ghost use Rattle.writing.specs.Wrote.{Wrote};
 ghost use Rattle.exponent.specs.Limits.{WellFormed};
 ghost use Rattle.exponent.specs.Tanner.{tanner};
 ghost use Rattle.alist.specs.Calls.{alistText, writeRules};
-ghost use Rattle.writing.specs.Wrote.{Wrote};
 ghost use Rattle.planning.specs.Output.{refusedLine, printed};
 ghost use Rattle.planning.specs.Steps.{Printed};
 

@@ -17,17 +17,17 @@ use Rattle.graph.specs.Girth.{Passes}
 use Rattle.graph.specs.Erasure.{total, parity, any, only, peel, peels, largest}
 use Rattle.graph.specs.Filling.{forced, fillRound, fillRounds, filledWord, oddCheck, clash, filledCount, leftCount}
 use Rattle.exponent.specs.declared.block.Block.the-variants.{Shift}
-use Rattle.exponent.specs.Plan.{entryAt, blockAt}
+use Rattle.exponent.specs.Plan.{shifts, entryAt, blockAt}
 use Rattle.exponent.specs.Limits.{outside, planRules}
 use Rattle.exponent.specs.Tanner.{tanner}
 use Rattle.exponent.proofs.Rules.{inside, accepted}
+use Rattle.walks.proofs.OneRow.{one-row-passes}
 use Rattle.girth.specs.declared.GirthTest.{GirthTest}
 use Rattle.girth.specs.declared.Outcome.the-variants.{Passed, Failed, Refused}
 use Rattle.girth.specs.Test.{testRules, Answer, refused, passed, failed}
 use Rattle.girth.specs.Model.{model}
 use Rattle.girth.proofs.Cases.{computed}
 use Rattle.girth.proofs.Model.{model-answer}
-use Rattle.walks.proofs.OneRow.{one-row-passes}
 use Rattle.syndrome.specs.declared.Syndrome.the-variants.{Odd}
 use Rattle.syndrome.specs.Word.{byteRules, wordRules}
 use Rattle.syndrome.specs.Check.{checkRules, lowestOdd, syndromeOf}
@@ -35,8 +35,8 @@ use Rattle.peeling.specs.declared.Filling.the-variants.{Filled, Refused as NotF
 use Rattle.peeling.specs.Fill.{fillRules, fillAnswer, fillWord}
 use Rattle.square.specs.Table.{quads, suppliedTable}
 use Rattle.square.specs.Mask.{maskAt, rowOnes, columnOnes, weighs, common, weight}
-use Rattle.table.specs.declared.Built.the-variants.{Built, Refused as NotBuilt}
 use Rattle.grid.specs.Plan.{columns, rows, tablePlan}
+use Rattle.table.specs.declared.Built.the-variants.{Built, Refused as NotBuilt}
 use Rattle.table.specs.Build.{tableRules, maskRules, buildRules, builtPlan}
 use Rattle.decimal.specs.Decimal.{digits, decimal}
 use Rattle.lines.specs.Alist.{degrees, greatest, fill, lists, linesOf}
@@ -44,7 +44,7 @@ use Rattle.lines.specs.Text.{item, lineFrom, textOf}
 use Rattle.alist.specs.Calls.{alistText}
 use Rattle.alist.proofs.FirstLine.{sizesLine, text-begins}
 use Rattle.promises.specs.Two.{Passing}
-use Rattle.promises.specs.Cases.{Failing, FailingWith, entries, pair, full, column, cyclicAnswer, cyclicPlan, bytes, BenchCases}
+use Rattle.promises.specs.Cases.{Failing, FailingWith, pair, full, column, cyclicAnswer, cyclicPlan, bytes, BenchCases}
 use Rattle.promises.proofs.Two.{verdict, passing-12}
 
 -- THE GIRTH TEST: what the model's answer is, every answer is
@@ -85,7 +85,7 @@ lift-4097 plan cols h k =
     ∙ lowest-next (outside 1 512 cols) Cols _ (inside 1 512 cols .1 (h, k))
     ∙ lowest-here (outside 1 4096 4097) Lift _ refl
 
-zeros-least : Passes (tanner (entries (0 ∷ 0 ∷ 0 ∷ 0 ∷ [])) 2 2 1) 4
+zeros-least : Passes (tanner (shifts (0 ∷ 0 ∷ 0 ∷ 0 ∷ [])) 2 2 1) 4
 unfolding Passes
 zeros-least n cs bs y = omega (arith, y .least)
 

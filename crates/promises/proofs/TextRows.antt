@@ -12,6 +12,7 @@ use lib.IntN.{ℤ}
 use lib.ListN.{length, getD, take, drop}
 use Rattle.refusal.specs.declared.Refusal.{Refusal}
 use Rattle.refusal.specs.declared.Refusal.the-variants.{TextPlace, Token}
+use Rattle.graph.specs.Count.{isSome}
 use Rattle.graph.proofs.Decide.{by-bool, by-le, both-ways}
 use Rattle.exponent.specs.Limits.{planRules}
 use Rattle.tokens.specs.Tokens.{blank, start, tokenAt, stop, right, mismatch}
@@ -19,7 +20,7 @@ use Rattle.tokens.proofs.Runs.{start-le, token-end, token-more, tokenAt-le, tok
 use Rattle.tokens.proofs.ByPlace.{start-from, before-start, at-start, start-is, start-none, in-token, behind-token, token-is}
 use Rattle.lines.specs.Alist.{alist}
 use Rattle.lines.specs.Text.{numbersOf}
-use Rattle.alist.specs.Calls.{alistText, roomRules, writeRules, found, placeOf, tokenRules, compareRules}
+use Rattle.alist.specs.Calls.{alistText, roomRules, writeRules, placeOf, tokenRules, compareRules}
 use Rattle.promises.specs.TurnedAway.{PlanRow, RoomRow, row-17, IsBlank, tab, line-feed, carriage-return, space, NextToken, Says, FirstWrong, wrong, extra, early, go-on, TokenRow, row-21, _or_}
 use Rattle.promises.proofs.Matching.{Matches, join, one-rule}
 use Rattle.promises.proofs.PlanRows.{plan-matches}
@@ -138,17 +139,17 @@ module _ (text : List ℕ) where
 token-matches : (text numbers : List ℕ) → Matches (tokenRules (mismatch text 0 numbers)) (TokenRow text numbers)
 token-matches text numbers = one-rule (Token (placeOf (mismatch text 0 numbers))) _ (TokenRow text numbers) told row
   where
-    is-some : (o : Option ℕ) → found o ≡ true → o ≡ some (placeOf o)
+    is-some : (o : Option ℕ) → isSome o ≡ true → o ≡ some (placeOf o)
     is-some none e = both-ways e refl
     is-some (some place) e = refl
 
-    told : found (mismatch text 0 numbers) ≡ true → TokenRow text numbers (Token (placeOf (mismatch text 0 numbers)))
+    told : isSome (mismatch text 0 numbers) ≡ true → TokenRow text numbers (Token (placeOf (mismatch text 0 numbers)))
     told e = row-21 _ (wrong-found text numbers 0 _ (omega arith) (is-some (mismatch text 0 numbers) e))
 
-    row : (s : Refusal) → TokenRow text numbers s → (s ≡ Token (placeOf (mismatch text 0 numbers))) × (found (mismatch text 0 numbers) ≡ true)
+    row : (s : Refusal) → TokenRow text numbers s → (s ≡ Token (placeOf (mismatch text 0 numbers))) × (isSome (mismatch text 0 numbers) ≡ true)
     row s (row-21 place h) =
         let e = found-wrong text numbers 0 place h (omega arith) in
-        (ap (λ (o : Option ℕ). Token (placeOf o)) (sym e), ap found e)
+        (ap (λ (o : Option ℕ). Token (placeOf o)) (sym e), ap isSome e)
 
 -- THE CALLS
 module _ (plan : List ℤ) (rows cols lift : ℕ) where

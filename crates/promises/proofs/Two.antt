@@ -24,16 +24,16 @@ use Rattle.girth.specs.Test.{allowed, Witness, Answer, refused, passed, failed}
 use Rattle.girth.specs.Model.{model}
 use Rattle.girth.proofs.Model.{model-answer}
 use Rattle.girth.proofs.Rules.{not-refused as test-accepted}
-use Rattle.square.specs.Mask.{weight}
-use Rattle.table.specs.declared.Built.the-variants.{Built}
-use Rattle.grid.specs.Plan.{planRows, planCols}
-use Rattle.table.specs.Build.{lent, buildRules, builtPlan, built}
-use Rattle.table.proofs.Plans.{built-is-good}
-use Rattle.table.proofs.From004.{built-from-004, built-shape-004}
 use Rattle.syndrome.specs.Word.{wordRules}
 use Rattle.peeling.specs.declared.Filling.the-variants.{Filled}
 use Rattle.peeling.specs.Fill.{fillAnswer, fillWord}
 use Rattle.peeling.proofs.Rules.{word-refused, clash-refused, not-refused}
+use Rattle.square.specs.Mask.{weight}
+use Rattle.grid.specs.Plan.{planRows, planCols}
+use Rattle.table.specs.declared.Built.the-variants.{Built}
+use Rattle.table.specs.Build.{lent, buildRules, builtPlan, built}
+use Rattle.table.proofs.Plans.{built-is-good}
+use Rattle.table.proofs.From004.{built-from-004, built-shape-004}
 use Rattle.promises.specs.Two.{ShortCycle, Verdict, Verdicts, Passing, BuiltPlan, BuiltPlans, Recovers, Promise-2}
 
 -- THE GIRTH TEST

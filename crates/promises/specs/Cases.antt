@@ -5,13 +5,13 @@ use Prim.Native.String.{String, [] as empty, _∷_ as _then_}
 use mathlib.Core.Path.{_≡_}
 use mathlib.Core.List.{List, [], _∷_}
 use mathlib.Core.Option.{none}
-use lib.IntN.{ℤ, pos}
+use lib.IntN.{ℤ}
 use lib.ListN.{getD, take, replicate}
 use Rattle.refusal.specs.declared.Refusal.{Refusal}
 use Rattle.refusal.specs.Number.{number, values}
 use Rattle.refusal.specs.Lowest.{lowest}
 use Rattle.exponent.specs.declared.block.Block.the-variants.{Shift}
-use Rattle.exponent.specs.Plan.{blockAt}
+use Rattle.exponent.specs.Plan.{shifts, blockAt}
 use Rattle.exponent.specs.Limits.{planRules}
 use Rattle.exponent.specs.Tanner.{tanner}
 use Rattle.girth.specs.declared.GirthTest.{GirthTest}
@@ -24,10 +24,10 @@ use Rattle.peeling.specs.Fill.{fillAnswer, fillWord}
 use Rattle.square.specs.declared.supply.Family.the-variants.{Cyclic}
 use Rattle.square.specs.Table.{suppliedTable}
 use Rattle.square.specs.Mask.{maskAt, weight}
-use Rattle.table.specs.declared.Built.{Built as BuiltAnswer}
-use Rattle.table.specs.declared.Built.the-variants.{Built, Refused as NotBuilt}
 use Rattle.grid.specs.declared.Column.{Column}
 use Rattle.grid.specs.Plan.{columns}
+use Rattle.table.specs.declared.Built.{Built as BuiltAnswer}
+use Rattle.table.specs.declared.Built.the-variants.{Built, Refused as NotBuilt}
 use Rattle.table.specs.Build.{buildRules, builtPlan, built}
 use Rattle.alist.specs.Calls.{alistText}
 use Rattle.promises.specs.Two.{Passing}
@@ -43,13 +43,9 @@ FailingWith edges plan rows cols lift target = (r : GirthTest) → Answer plan r
 abbrev pub RefusedWith : {A : Type 0} → ℕ → List ℕ → (Refusal → A) → A → Type 0
 RefusedWith n l refused answer = (x : Refusal) × (answer ≡ refused x) × (number x ≡ n) × (values x ≡ l)
 
--- a plan of filled blocks, row by row; and the one-row plan 0 1
-abbrev pub entries : List ℕ → List ℤ
-entries [] = []
-entries (e ∷ l) = pos e ∷ entries l
-
+-- the one-row plan 0 1
 abbrev pub pair : List ℤ
-pair = entries (0 ∷ 1 ∷ [])
+pair = shifts (0 ∷ 1 ∷ [])
 
 -- the cyclic table of order 4 with the full mask and a place of 48 × 64 numbers: what the builder answers, and the plan that it builds
 abbrev pub full : List ℕ
@@ -72,18 +68,18 @@ bytes (c then s) = code c ∷ bytes s
 -- THE TABLE
 pub record BenchCases : Type 0 where
   -- 2×2 plan of zeros, P = 1: cycle of 4, fails at 6
-  pub zeros-fails-6 : FailingWith 4 (entries (0 ∷ 0 ∷ 0 ∷ 0 ∷ [])) 2 2 1 6
+  pub zeros-fails-6 : FailingWith 4 (shifts (0 ∷ 0 ∷ 0 ∷ 0 ∷ [])) 2 2 1 6
   -- 0 0 / 0 1, P = 2: passes 8, fails 10 with a cycle of 8; P = 3: passes 12
-  pub corner-passes-8 : Passing (entries (0 ∷ 0 ∷ 0 ∷ 1 ∷ [])) 2 2 2 8
-  pub corner-fails-10 : FailingWith 8 (entries (0 ∷ 0 ∷ 0 ∷ 1 ∷ [])) 2 2 2 10
-  pub corner-passes-12 : Passing (entries (0 ∷ 0 ∷ 0 ∷ 1 ∷ [])) 2 2 3 12
+  pub corner-passes-8 : Passing (shifts (0 ∷ 0 ∷ 0 ∷ 1 ∷ [])) 2 2 2 8
+  pub corner-fails-10 : FailingWith 8 (shifts (0 ∷ 0 ∷ 0 ∷ 1 ∷ [])) 2 2 2 10
+  pub corner-passes-12 : Passing (shifts (0 ∷ 0 ∷ 0 ∷ 1 ∷ [])) 2 2 3 12
   -- 0 0 / 0 2, P = 4: fails 10
-  pub corner-2-fails-10 : Failing (entries (0 ∷ 0 ∷ 0 ∷ 2 ∷ [])) 2 2 4 10
+  pub corner-2-fails-10 : Failing (shifts (0 ∷ 0 ∷ 0 ∷ 2 ∷ [])) 2 2 4 10
   -- 0 0 0 0 / 0 0 1 1 / 0 1 0 1, P = 2 (002, example 1): fails 6
-  pub example-1-fails-6 : Failing (entries (0 ∷ 0 ∷ 0 ∷ 0 ∷ 0 ∷ 0 ∷ 1 ∷ 1 ∷ 0 ∷ 1 ∷ 0 ∷ 1 ∷ [])) 3 4 2 6
+  pub example-1-fails-6 : Failing (shifts (0 ∷ 0 ∷ 0 ∷ 0 ∷ 0 ∷ 0 ∷ 1 ∷ 1 ∷ 0 ∷ 1 ∷ 0 ∷ 1 ∷ [])) 3 4 2 6
   -- any one-row plan passes 12; P = 4,096 is taken, 4,097 is 3
   pub one-row-passes-12 : (plan : List ℤ) (cols lift : ℕ) → lowest (planRules plan 1 cols lift) ≡ none → Passing plan 1 cols lift 12
-  pub lift-4096-taken : Passing (entries (0 ∷ 0 ∷ 0 ∷ [])) 1 3 4096 12
+  pub lift-4096-taken : Passing (shifts (0 ∷ 0 ∷ 0 ∷ [])) 1 3 4096 12
   pub lift-4097-refused : (plan : List ℤ) (cols : ℕ) → 1 ≤ cols → cols ≤ 512 → (r : GirthTest) → Answer plan 1 cols 4097 12 r → RefusedWith 3 [] NotTested (r .outcome)
   -- cyclic J = 4, P = 6: refusal 10 with 0, 2, 1, 3; P = 7: built, 448 bits, text begins "448 336"
   pub cyclic-6-refused : RefusedWith 10 (0 ∷ 2 ∷ 1 ∷ 3 ∷ []) NotBuilt (cyclicAnswer 6)

@@ -31,11 +31,11 @@ use Rattle.table.specs.declared.Built.{Built}
 use Rattle.table.specs.declared.Built.the-variants as built-answer
 use Rattle.table.specs.Build.{lent, supplyRules, supplied, buildRules, builtPlan, built}
 use Rattle.lines.specs.Alist.{alist}
+use Rattle.lines.specs.Text.{numbersOf}
 use Rattle.alist.specs.declared.Written.{Written}
 use Rattle.alist.specs.declared.Written.the-variants as written-answer
 use Rattle.alist.specs.declared.Comparison.{Comparison}
 use Rattle.alist.specs.declared.Comparison.the-variants as comparison-answer
-use Rattle.lines.specs.Text.{numbersOf}
 use Rattle.alist.specs.Calls.{alistText, writeRules, written, laid, compareRules, comparison}
 use Rattle.promises.specs.TurnedAway.{LiftRow, PlanRow, TargetRow, SquareRow, TableRow, MaskRow, PlaceRow, WordRow, RoomRow, ErasureRow, SolutionRow, TokenRow, _or_, LowestOf}
 

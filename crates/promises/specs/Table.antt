@@ -8,8 +8,8 @@ use Rattle.refusal.specs.Lowest.{lowest}
 use Rattle.syndrome.specs.declared.Syndrome.the-variants.{Even}
 use Rattle.syndrome.specs.Check.{syndromeOf}
 use Rattle.square.specs.Mask.{weight}
-use Rattle.table.specs.Build.{buildRules, builtPlan}
 use Rattle.grid.specs.Plan.{planRows, planCols}
+use Rattle.table.specs.Build.{buildRules, builtPlan}
 use Rattle.promises.specs.Three.{Loses, Recovered}
 
 -- a code frame of a built plan that loses up to 13 bits comes back

@@ -17,13 +17,13 @@ use Rattle.exponent.specs.Tanner.{tanner}
 use Rattle.girth.specs.declared.GirthTest.{GirthTest}
 use Rattle.girth.specs.declared.Outcome.the-variants.{Passed, Failed}
 use Rattle.girth.specs.Test.{testRules, Witness, Answer}
-use Rattle.square.specs.Table.{tableAt}
-use Rattle.square.specs.Mask.{maskAt, weight}
-use Rattle.table.specs.declared.Built.the-variants.{Built}
-use Rattle.table.specs.Build.{lent, buildRules, builtPlan, built}
-use Rattle.grid.specs.Source004.{keptColumns, keptRows, target as target004, written}
 use Rattle.peeling.specs.declared.Filling.the-variants.{Filled}
 use Rattle.peeling.specs.Fill.{fillAnswer, fillWord}
+use Rattle.square.specs.Table.{tableAt}
+use Rattle.square.specs.Mask.{maskAt, weight}
+use Rattle.grid.specs.Source004.{keptColumns, keptRows, target as target004, written}
+use Rattle.table.specs.declared.Built.the-variants.{Built}
+use Rattle.table.specs.Build.{lent, buildRules, builtPlan, built}
 
 -- A PLAN PASSES at a target exactly when its expanded graph has no simple cycle with fewer edges than the target, and else such a
 -- cycle is shown.

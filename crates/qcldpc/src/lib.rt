@@ -3,24 +3,25 @@
 ghost use mathlib.Core.Path.{_≡_};
 ghost use lib.ListN.{length};
 ghost use Rattle.refusal.specs.Lowest.{lowest};
-ghost use Rattle.alist.specs.declared.Written.{Written};
-ghost use Rattle.alist.specs.declared.Comparison.{Comparison};
-ghost use Rattle.alist.specs.Calls.{alistText, writeRules, written, laid, compareRules, comparison};
 ghost use Rattle.exponent.specs.declared.Validity.{Validity};
 ghost use Rattle.exponent.specs.Limits.{planRules, validity};
 ghost use Rattle.girth.specs.declared.GirthTest.{GirthTest};
 ghost use Rattle.girth.specs.Test.{Answer};
-ghost use Rattle.peeling.specs.declared.Filling.{Filling};
-ghost use Rattle.peeling.specs.Fill.{fillAnswer, fillWord};
 ghost use Rattle.syndrome.specs.declared.Syndrome.{Syndrome};
 ghost use Rattle.syndrome.specs.Check.{syndromeOf};
+ghost use Rattle.peeling.specs.declared.Filling.{Filling};
+ghost use Rattle.peeling.specs.Fill.{fillAnswer, fillWord};
 ghost use Rattle.square.specs.declared.supply.Family.the-variants.{Array, Cyclic};
 ghost use Rattle.square.specs.Table.{suppliedTable};
 ghost use Rattle.square.specs.Mask.{weight};
 ghost use Rattle.table.specs.declared.Built.{Built};
 ghost use Rattle.table.specs.declared.Supplied.{Supplied};
 ghost use Rattle.table.specs.Build.{lent, supplyRules, supplied, buildRules, builtPlan, built};
-ghost use Rattle.qcldpc.specs.Door.{Replies, Leaves, checkReply, girthReply, fillReply, syndromeReply, builtReply, suppliedReply, writtenReply, comparedReply};
+ghost use Rattle.alist.specs.declared.Written.{Written};
+ghost use Rattle.alist.specs.declared.Comparison.{Comparison};
+ghost use Rattle.alist.specs.Calls.{alistText, writeRules, written, laid, compareRules, comparison};
+ghost use Rattle.qcldpc.specs.Door.{Replies, Leaves, gives, checkReply, girthReply, fillReply, syndromeReply, builtReply, suppliedReply, writtenReply, comparedReply};
+use square::supply::Family;
 
 mod reply; // reply.rt: an answer as a number and values
 
@@ -39,13 +40,14 @@ pub extern "C" fn qcldpc_check(
     lift: u64,
     out: &mut [u64],
 ) -> u64
-    ensures { λ r. ⌜ Replies Validity (λ v. v ≡ validity (lowest (planRules (now (plan .entry)) rows cols lift))) checkReply (now (out .entry)) r (now (out .exit)) ⌝ }
+    ensures { λ r. ⌜ Replies Validity (λ v. v ≡ validity (lowest (planRules (now (plan .entry)) rows cols lift))) (gives checkReply) (now (out .entry)) r (now (out .exit)) ⌝ }
 {
     if out.len() < PLACES {
         return NO_ROOM;
     }
     let v = exponent::validate(plan, rows as usize, cols as usize, lift as usize);
-    reply::checked(v, out)
+    let r = reply::checked(v);
+    reply::give(r, out)
 }
 
 // The girth test: out[0] is 0 where the plan passes, else n of a witness cycle, its checks from out[1] and its bits from out[9].
@@ -83,14 +85,15 @@ pub extern "C" fn qcldpc_fill(
     word: &mut [u8],
     out: &mut [u64],
 ) -> u64
-    ensures answers { λ r. ⌜ Replies Filling (λ a. a ≡ fillAnswer (now (plan .entry)) rows cols lift (now (word .entry))) fillReply (now (out .entry)) r (now (out .exit)) ⌝ }
+    ensures answers { λ r. ⌜ Replies Filling (λ a. a ≡ fillAnswer (now (plan .entry)) rows cols lift (now (word .entry))) (gives fillReply) (now (out .entry)) r (now (out .exit)) ⌝ }
     ensures leaves { λ _. ⌜ Leaves (now (out .entry)) (fillWord (now (plan .entry)) rows cols lift (now (word .entry))) (now (word .entry)) (now (word .exit)) ⌝ }
 {
     if out.len() < PLACES {
         return NO_ROOM;
     }
     let a = peeling::fill(plan, rows as usize, cols as usize, lift as usize, word);
-    reply::filled(a, out)
+    let r = reply::filled(a);
+    reply::give(r, out)
 }
 
 // The syndrome: out[0] is 0 where every check is even, else 1, with the lowest odd check in out[1].
@@ -103,13 +106,14 @@ pub extern "C" fn qcldpc_syndrome(
     word: &[u8],
     out: &mut [u64],
 ) -> u64
-    ensures { λ r. ⌜ Replies Syndrome (λ a. a ≡ syndromeOf (now (plan .entry)) rows cols lift (now (word .entry))) syndromeReply (now (out .entry)) r (now (out .exit)) ⌝ }
+    ensures { λ r. ⌜ Replies Syndrome (λ a. a ≡ syndromeOf (now (plan .entry)) rows cols lift (now (word .entry))) (gives syndromeReply) (now (out .entry)) r (now (out .exit)) ⌝ }
 {
     if out.len() < PLACES {
         return NO_ROOM;
     }
     let a = syndrome::check(plan, rows as usize, cols as usize, lift as usize, word);
-    reply::found(a, out)
+    let r = reply::found(a);
+    reply::give(r, out)
 }
 
 // The plan of a table and a mask: out[0] rows and out[1] columns.
@@ -123,7 +127,7 @@ pub extern "C" fn qcldpc_build(
     out: &mut [u64],
 ) -> u64
     ensures answers { λ r. ⌜ Replies Built (λ a. a ≡ built (lowest (buildRules order lift (now (table .entry)) (now (mask .entry)) (length (now (plan .entry)))))
-        order (weight order (now (mask .entry)))) builtReply (now (out .entry)) r (now (out .exit)) ⌝ }
+        order (weight order (now (mask .entry)))) (gives builtReply) (now (out .entry)) r (now (out .exit)) ⌝ }
     ensures leaves { λ _. ⌜ Leaves (now (out .entry)) (lent (lowest (buildRules order lift (now (table .entry)) (now (mask .entry)) (length (now (plan .entry)))))
         (builtPlan order lift (now (table .entry)) (now (mask .entry))) (now (plan .entry))) (now (plan .entry)) (now (plan .exit)) ⌝ }
 {
@@ -131,35 +135,42 @@ pub extern "C" fn qcldpc_build(
         return NO_ROOM;
     }
     let a = table::build(order as usize, lift as usize, table, mask, plan);
-    reply::built(a, out)
+    let r = reply::built(a);
+    reply::give(r, out)
+}
+
+// A supplied table.
+fn supply(family: Family, order: u64, table: &mut [i16], out: &mut [u64]) -> u64
+    ensures answers { λ r. ⌜ Replies Supplied (λ a. a ≡ supplied (lowest (supplyRules order (length (now (table .entry)))))) (gives suppliedReply) (now (out .entry)) r (now (out .exit)) ⌝ }
+    ensures leaves { λ _. ⌜ Leaves (now (out .entry)) (lent (lowest (supplyRules order (length (now (table .entry)))))
+        (suppliedTable family order) (now (table .entry))) (now (table .entry)) (now (table .exit)) ⌝ }
+{
+    if out.len() < PLACES {
+        return NO_ROOM;
+    }
+    let a = table::supply::supply(family, order as usize, table);
+    let r = reply::supplied(a);
+    reply::give(r, out)
 }
 
 // The array table.
 #[no_mangle]
 pub extern "C" fn qcldpc_array_table(order: u64, table: &mut [i16], out: &mut [u64]) -> u64
-    ensures answers { λ r. ⌜ Replies Supplied (λ a. a ≡ supplied (lowest (supplyRules order (length (now (table .entry)))))) suppliedReply (now (out .entry)) r (now (out .exit)) ⌝ }
+    ensures answers { λ r. ⌜ Replies Supplied (λ a. a ≡ supplied (lowest (supplyRules order (length (now (table .entry)))))) (gives suppliedReply) (now (out .entry)) r (now (out .exit)) ⌝ }
     ensures leaves { λ _. ⌜ Leaves (now (out .entry)) (lent (lowest (supplyRules order (length (now (table .entry)))))
         (suppliedTable Array order) (now (table .entry))) (now (table .entry)) (now (table .exit)) ⌝ }
 {
-    if out.len() < PLACES {
-        return NO_ROOM;
-    }
-    let a = table::array(order as usize, table);
-    reply::supplied(a, out)
+    supply(Family::Array, order, table, out)
 }
 
 // The cyclic table.
 #[no_mangle]
 pub extern "C" fn qcldpc_cyclic_table(order: u64, table: &mut [i16], out: &mut [u64]) -> u64
-    ensures answers { λ r. ⌜ Replies Supplied (λ a. a ≡ supplied (lowest (supplyRules order (length (now (table .entry)))))) suppliedReply (now (out .entry)) r (now (out .exit)) ⌝ }
+    ensures answers { λ r. ⌜ Replies Supplied (λ a. a ≡ supplied (lowest (supplyRules order (length (now (table .entry)))))) (gives suppliedReply) (now (out .entry)) r (now (out .exit)) ⌝ }
     ensures leaves { λ _. ⌜ Leaves (now (out .entry)) (lent (lowest (supplyRules order (length (now (table .entry)))))
         (suppliedTable Cyclic order) (now (table .entry))) (now (table .entry)) (now (table .exit)) ⌝ }
 {
-    if out.len() < PLACES {
-        return NO_ROOM;
-    }
-    let a = table::cyclic(order as usize, table);
-    reply::supplied(a, out)
+    supply(Family::Cyclic, order, table, out)
 }
 
 // The alist of a plan, into a lent place: out[0] is its length.
@@ -173,7 +184,7 @@ pub extern "C" fn qcldpc_alist_write(
     out: &mut [u64],
 ) -> u64
     ensures answers { λ r. ⌜ Replies Written (λ a. a ≡ written (length (alistText (now (plan .entry)) rows cols lift)) (lowest (writeRules (now (plan .entry)) rows cols lift (now (text .entry)))))
-        writtenReply (now (out .entry)) r (now (out .exit)) ⌝ }
+        (gives writtenReply) (now (out .entry)) r (now (out .exit)) ⌝ }
     ensures leaves { λ _. ⌜ Leaves (now (out .entry)) (laid (lowest (writeRules (now (plan .entry)) rows cols lift (now (text .entry)))) (alistText (now (plan .entry)) rows cols lift) (now (text .entry)))
         (now (text .entry)) (now (text .exit)) ⌝ }
 {
@@ -181,7 +192,8 @@ pub extern "C" fn qcldpc_alist_write(
         return NO_ROOM;
     }
     let a = alist::write(plan, rows as usize, cols as usize, lift as usize, text);
-    reply::written(a, out)
+    let r = reply::written(a);
+    reply::give(r, out)
 }
 
 // A lent text against the alist of a plan.
@@ -194,11 +206,12 @@ pub extern "C" fn qcldpc_alist_compare(
     text: &[u8],
     out: &mut [u64],
 ) -> u64
-    ensures { λ r. ⌜ Replies Comparison (λ a. a ≡ comparison (lowest (compareRules (now (plan .entry)) rows cols lift (now (text .entry))))) comparedReply (now (out .entry)) r (now (out .exit)) ⌝ }
+    ensures { λ r. ⌜ Replies Comparison (λ a. a ≡ comparison (lowest (compareRules (now (plan .entry)) rows cols lift (now (text .entry))))) (gives comparedReply) (now (out .entry)) r (now (out .exit)) ⌝ }
 {
     if out.len() < PLACES {
         return NO_ROOM;
     }
     let a = alist::compare(plan, rows as usize, cols as usize, lift as usize, text);
-    reply::compared(a, out)
+    let r = reply::compared(a);
+    reply::give(r, out)
 }

@@ -13,7 +13,15 @@ ghost use mathlib.Core.Path.{_≡_};
 ghost use Prim.Native.Nat.{_+_, _≤_};
 ghost use lib.ListN.{length};
 ghost use lib.Seq.{sets};
-ghost use Rattle.qcldpc.specs.Door.{refusal, checkReply, witnessReply, girthReply, pairReply, fillReply, syndromeReply, builtReply, suppliedReply, writtenReply, comparedReply};
+ghost use Rattle.qcldpc.specs.Door.{refusal, given, checkReply, witnessReply, girthReply, fillReply, syndromeReply, builtReply, suppliedReply, writtenReply, comparedReply};
+
+// What an answer comes to: a refusal; or no number, one or two for the first places of `out`.
+pub enum Reply {
+    Refused(Refusal),
+    Nothing,
+    One(usize),
+    Two(usize, usize),
+}
 
 // Writes all of `from` into `out`, from place `at` on.
 fn put(out: &mut [u64], at: usize, from: &[usize])
@@ -38,18 +46,6 @@ fn refused(r: Refusal, out: &mut [u64]) -> u64
     let places = values.places;
     put(out, 0, &places[..count]);
     numbers::number_of(r)
-}
-
-// Whether a plan may be used.
-pub fn checked(v: Validity, out: &mut [u64]) -> u64
-    requires { ⌜ 32 ≤ length (now out) ⌝ }
-    ensures code { λ n. ⌜ n ≡ checkReply v (now (out .entry)) .code ⌝ }
-    ensures left { λ _. ⌜ now (out .exit) ≡ checkReply v (now (out .entry)) .out ⌝ }
-{
-    match v {
-        Validity::Valid => 0,
-        Validity::Refused(r) => refused(r, out),
-    }
 }
 
 // The girth test's answer, where it is no refusal: n, the checks from place 1 and the bits from place 9.
@@ -80,92 +76,94 @@ pub fn tested(t: GirthTest, out: &mut [u64]) -> u64
     }
 }
 
-// Two numbers, into the first two places.
-fn pair(a: usize, b: usize, out: &mut [u64]) -> u64
+// Returns 0 or the refusal's number, and puts the numbers of a reply into `out`.
+pub fn give(reply: Reply, out: &mut [u64]) -> u64
     requires { ⌜ 32 ≤ length (now out) ⌝ }
-    ensures code { λ n. ⌜ n ≡ pairReply a b (now (out .entry)) .code ⌝ }
-    ensures left { λ _. ⌜ now (out .exit) ≡ pairReply a b (now (out .entry)) .out ⌝ }
+    ensures code { λ n. ⌜ n ≡ given reply (now (out .entry)) .code ⌝ }
+    ensures left { λ _. ⌜ now (out .exit) ≡ given reply (now (out .entry)) .out ⌝ }
 {
-    out[0] = a as u64;
-    out[1] = b as u64;
-    0
-}
-
-// The decoder.
-pub fn filled(f: Filling, out: &mut [u64]) -> u64
-    requires { ⌜ 32 ≤ length (now out) ⌝ }
-    ensures code { λ n. ⌜ n ≡ fillReply f (now (out .entry)) .code ⌝ }
-    ensures left { λ _. ⌜ now (out .exit) ≡ fillReply f (now (out .entry)) .out ⌝ }
-{
-    match f {
-        Filling::Filled { filled, left } => pair(filled, left, out),
-        Filling::Refused(r) => refused(r, out),
-    }
-}
-
-// The syndrome.
-pub fn found(s: Syndrome, out: &mut [u64]) -> u64
-    requires { ⌜ 32 ≤ length (now out) ⌝ }
-    ensures code { λ n. ⌜ n ≡ syndromeReply s (now (out .entry)) .code ⌝ }
-    ensures left { λ _. ⌜ now (out .exit) ≡ syndromeReply s (now (out .entry)) .out ⌝ }
-{
-    match s {
-        Syndrome::Even => {
-            out[0] = 0;
+    match reply {
+        Reply::Refused(r) => refused(r, out),
+        Reply::Nothing => 0,
+        Reply::One(a) => {
+            out[0] = a as u64;
             0
         }
-        Syndrome::Odd(c) => pair(1, c, out),
-        Syndrome::Refused(r) => refused(r, out),
+        Reply::Two(a, b) => {
+            out[0] = a as u64;
+            out[1] = b as u64;
+            0
+        }
     }
 }
 
-// The builder.
-pub fn built(b: Built, out: &mut [u64]) -> u64
-    requires { ⌜ 32 ≤ length (now out) ⌝ }
-    ensures code { λ n. ⌜ n ≡ builtReply b (now (out .entry)) .code ⌝ }
-    ensures left { λ _. ⌜ now (out .exit) ≡ builtReply b (now (out .entry)) .out ⌝ }
+// Whether a plan may be used.
+pub fn checked(v: Validity) -> Reply
+    ensures { λ r. ⌜ r ≡ checkReply v ⌝ }
+{
+    match v {
+        Validity::Valid => Reply::Nothing,
+        Validity::Refused(r) => Reply::Refused(r),
+    }
+}
+
+// The decoder: how many erasures were filled, and how many are left.
+pub fn filled(f: Filling) -> Reply
+    ensures { λ r. ⌜ r ≡ fillReply f ⌝ }
+{
+    match f {
+        Filling::Filled { filled, left } => Reply::Two(filled, left),
+        Filling::Refused(r) => Reply::Refused(r),
+    }
+}
+
+// The syndrome: 0 where every check is even, else 1 and the lowest odd check.
+pub fn found(s: Syndrome) -> Reply
+    ensures { λ r. ⌜ r ≡ syndromeReply s ⌝ }
+{
+    match s {
+        Syndrome::Even => Reply::One(0),
+        Syndrome::Odd(c) => Reply::Two(1, c),
+        Syndrome::Refused(r) => Reply::Refused(r),
+    }
+}
+
+// The builder: the plan's rows and columns.
+pub fn built(b: Built) -> Reply
+    ensures { λ r. ⌜ r ≡ builtReply b ⌝ }
 {
     match b {
-        Built::Built { rows, cols } => pair(rows, cols, out),
-        Built::Refused(r) => refused(r, out),
+        Built::Built { rows, cols } => Reply::Two(rows, cols),
+        Built::Refused(r) => Reply::Refused(r),
     }
 }
 
 // A supplied table.
-pub fn supplied(s: Supplied, out: &mut [u64]) -> u64
-    requires { ⌜ 32 ≤ length (now out) ⌝ }
-    ensures code { λ n. ⌜ n ≡ suppliedReply s (now (out .entry)) .code ⌝ }
-    ensures left { λ _. ⌜ now (out .exit) ≡ suppliedReply s (now (out .entry)) .out ⌝ }
+pub fn supplied(s: Supplied) -> Reply
+    ensures { λ r. ⌜ r ≡ suppliedReply s ⌝ }
 {
     match s {
-        Supplied::Supplied => 0,
-        Supplied::Refused(r) => refused(r, out),
+        Supplied::Supplied => Reply::Nothing,
+        Supplied::Refused(r) => Reply::Refused(r),
     }
 }
 
-// The writer of alist text.
-pub fn written(w: Written, out: &mut [u64]) -> u64
-    requires { ⌜ 32 ≤ length (now out) ⌝ }
-    ensures code { λ n. ⌜ n ≡ writtenReply w (now (out .entry)) .code ⌝ }
-    ensures left { λ _. ⌜ now (out .exit) ≡ writtenReply w (now (out .entry)) .out ⌝ }
+// The writer of alist text: the text's length.
+pub fn written(w: Written) -> Reply
+    ensures { λ r. ⌜ r ≡ writtenReply w ⌝ }
 {
     match w {
-        Written::Written(n) => {
-            out[0] = n as u64;
-            0
-        }
-        Written::Refused(r) => refused(r, out),
+        Written::Written(n) => Reply::One(n),
+        Written::Refused(r) => Reply::Refused(r),
     }
 }
 
 // The comparer of alist text.
-pub fn compared(c: Comparison, out: &mut [u64]) -> u64
-    requires { ⌜ 32 ≤ length (now out) ⌝ }
-    ensures code { λ n. ⌜ n ≡ comparedReply c (now (out .entry)) .code ⌝ }
-    ensures left { λ _. ⌜ now (out .exit) ≡ comparedReply c (now (out .entry)) .out ⌝ }
+pub fn compared(c: Comparison) -> Reply
+    ensures { λ r. ⌜ r ≡ comparedReply c ⌝ }
 {
     match c {
-        Comparison::Agrees => 0,
-        Comparison::Refused(r) => refused(r, out),
+        Comparison::Agrees => Reply::Nothing,
+        Comparison::Refused(r) => Reply::Refused(r),
     }
 }

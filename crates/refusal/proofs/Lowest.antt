@@ -5,16 +5,13 @@ use mathlib.Core.Path.{_≡_, refl, sym, _∙_}
 use mathlib.Core.Logic.{_↔_, _⊎_, inl, inr}
 use mathlib.Core.Bool.{Bool, true, false, cond, _&&_}
 use mathlib.Core.List.{List, [], _∷_, _++_}
-use mathlib.Core.Option.{Option, none, some}
+use mathlib.Core.Option.{Option, none, some, Option·none-ne-some}
 use native.Mathlib.Omega.{arith}
 use lib.Dec.{ltb}
 use borrow.Author.Tests.{ltb-true}
 use Rattle.refusal.specs.declared.Refusal.{Refusal}
 use Rattle.refusal.specs.Number.{number}
 use Rattle.refusal.specs.Lowest.{Rule, refuse, lowest, rise-from, rising, In, here, later, LowestThat}
-
-none-some : {A : Type 0} (x : A) → none ≡ some x → ⊥
-none-some x e = let z : _≡_ {A = ℕ} 0 1 = cc in omega arith
 
 some-same : {A : Type 0} (x y : A) → some x ≡ some y → x ≡ y
 some-same x y e = cc
@@ -36,7 +33,7 @@ first true r s rest e = inl (refl, some-same r s e)
 first false r s rest e = inr (refl, e)
 
 none-first : (test : Bool) (r : Refusal) (rest : Option Refusal) → cond test (some r) rest ≡ none → (test ≡ false) × (rest ≡ none)
-none-first true r rest e = absurd (none-some r (sym e))
+none-first true r rest e = absurd (Option·none-ne-some r (sym e))
 none-first false r rest e = (refl, e)
 
 is-rule : (rule : Rule) (test : Bool) (r : Refusal) → rule .applies ≡ test → rule .refusal ≡ r → rule ≡ refuse r test
@@ -61,7 +58,7 @@ lowest-accepted (rule ∷ rules) others e =
 
 pub lowest-refused : (rules others : List Rule) (r : Refusal) → lowest rules ≡ some r → lowest (rules ++ others) ≡ some r
 unfolding lowest
-lowest-refused [] others r e = absurd (none-some r e)
+lowest-refused [] others r e = absurd (Option·none-ne-some r e)
 lowest-refused (rule ∷ rules) others r e = step (first (rule .applies) (rule .refusal) r (lowest rules) e) (lowest-refused rules others r)
   where
     step : ((rule .applies ≡ true) × (rule .refusal ≡ r)) ⊎ ((rule .applies ≡ false) × (lowest rules ≡ some r))
@@ -75,7 +72,7 @@ none-append rules others = (step (lowest rules) refl, λ h. lowest-accepted rule
   where
     step : (o : Option Refusal) → lowest rules ≡ o → lowest (rules ++ others) ≡ none → (lowest rules ≡ none) × (lowest others ≡ none)
     step none q e = (q, sym (lowest-accepted rules others q) ∙ e)
-    step (some r) q e = absurd (none-some r (sym e ∙ lowest-refused rules others r q))
+    step (some r) q e = absurd (Option·none-ne-some r (sym e ∙ lowest-refused rules others r q))
 
 -- what stands in a list stands first or later, and what stands in two lists, in one of them
 pub in-cons : {rule other : Rule} {rules : List Rule} → In rule (other ∷ rules) → (rule ≡ other) ⊎ In rule rules
@@ -102,7 +99,7 @@ in-either (other ∷ rules) others (later i) = step (in-either rules others i)
 -- what `lowest` gives applies
 lowest-applies : (rules : List Rule) (r : Refusal) → lowest rules ≡ some r → In (refuse r true) rules
 unfolding lowest
-lowest-applies [] r e = absurd (none-some r e)
+lowest-applies [] r e = absurd (Option·none-ne-some r e)
 lowest-applies (rule ∷ rules) r e = step (first (rule .applies) (rule .refusal) r (lowest rules) e) (lowest-applies rules r)
   where
     step : ((rule .applies ≡ true) × (rule .refusal ≡ r)) ⊎ ((rule .applies ≡ false) × (lowest rules ≡ some r))
@@ -113,7 +110,7 @@ lowest-applies (rule ∷ rules) r e = step (first (rule .applies) (rule .refusal
 -- where it gives nothing, nothing applies
 none-applies : (rules : List Rule) → lowest rules ≡ none → (r : Refusal) → In (refuse r true) rules → ⊥
 unfolding lowest
-none-applies l e r (here {rules = rules}) = none-some r (sym e)
+none-applies l e r (here {rules = rules}) = Option·none-ne-some r (sym e)
 none-applies l e r (later {other = other} {rules = rules} i) =
     none-applies rules (none-first (other .applies) (other .refusal) (lowest rules) e .1) r i
 

@@ -1,7 +1,8 @@
 -- Each number of document 01 stands for one case, in the document's order. Assumes nothing.
-use Prim.Native.Nat.{ℕ}
+use Prim.Native.Nat.{ℕ, _≤_}
 use mathlib.Core.Path.{_≡_, refl}
 use mathlib.Core.List.{List, [], _∷_, map}
+use native.Mathlib.Omega.{arith}
 use Rattle.refusal.specs.declared.Refusal.{Refusal}
 use Rattle.refusal.specs.declared.Refusal.the-variants.{Rows, Cols, Lift, Bits, PlanLength, Entry, Order, TableLength, NegativeEntry, Unsound, MaskByte, MaskWeight, TableBits, Target, PlanPlace, WordLength, TextPlace, Byte, Erasure, NoSolution, Token}
 use Rattle.refusal.specs.Number.{number}
@@ -34,3 +35,27 @@ cases v =
 
 pub numbered : (v : ℕ) → map number (cases v) ≡ 1 ∷ 2 ∷ 3 ∷ 4 ∷ 5 ∷ 6 ∷ 7 ∷ 8 ∷ 9 ∷ 10 ∷ 11 ∷ 12 ∷ 13 ∷ 14 ∷ 15 ∷ 16 ∷ 17 ∷ 18 ∷ 19 ∷ 20 ∷ 21 ∷ []
 numbered v = refl
+
+-- so every number is one of 1 to 21
+pub number-range : (r : Refusal) → (1 ≤ number r) × (number r ≤ 21)
+number-range Rows = omega arith
+number-range Cols = omega arith
+number-range Lift = omega arith
+number-range Bits = omega arith
+number-range PlanLength = omega arith
+number-range (Entry p) = omega arith
+number-range Order = omega arith
+number-range TableLength = omega arith
+number-range (NegativeEntry p) = omega arith
+number-range (Unsound i k r t) = omega arith
+number-range MaskByte = omega arith
+number-range MaskWeight = omega arith
+number-range TableBits = omega arith
+number-range Target = omega arith
+number-range PlanPlace = omega arith
+number-range WordLength = omega arith
+number-range (TextPlace n) = omega arith
+number-range (Byte p) = omega arith
+number-range (Erasure p) = omega arith
+number-range NoSolution = omega arith
+number-range (Token p) = omega arith

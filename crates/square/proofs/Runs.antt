@@ -5,9 +5,9 @@ use mathlib.Core.List.{List}
 use native.Mathlib.Numerals.{add-one}
 use native.Mathlib.Omega.{arith}
 use lib.ListN.{length}
-use Rattle.square.specs.Each.{each}
 use Rattle.writing.specs.Wrote.{Wrote}
 use Rattle.writing.proofs.Wrote.{wrote-then, wrote-length}
+use Rattle.square.specs.Each.{each}
 use Rattle.square.proofs.Each.{each-mono}
 
 module _ {A : Type 0} where

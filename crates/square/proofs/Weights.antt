@@ -1,5 +1,5 @@
 -- Refusal 12: it applies exactly where no common weight exists, and the weight is the ones of the first row. Assumes nothing.
-use Prim.Native.Nat.{ℕ, zero, suc, _+_, _-_, _*_, _≤_, _<_}
+use Prim.Native.Nat.{ℕ, _+_, _-_, _*_, _≤_, _<_}
 use mathlib.Core.Path.{_≡_, refl, sym, ap, subst, _∙_}
 use mathlib.Core.Logic.{_↔_}
 use mathlib.Core.Bool.{Bool, true, false, not}
@@ -13,7 +13,7 @@ use Rattle.refusal.specs.Place.{firstPlace}
 use Rattle.refusal.proofs.Place.{at-first, somewhere-no}
 use Rattle.graph.specs.Count.{range, below, count}
 use Rattle.graph.proofs.Decide.{by-bool, both-ways, and-left, and-right, and-both, same-bool}
-use Rattle.graph.proofs.Count.{mem-range, range-mem, nodup-range, length-range, count-same, count-le, count-full, crowd}
+use Rattle.graph.proofs.Count.{mem-range, range-mem, nodup-range, length-range, getD-range, count-same, count-le, count-full, crowd}
 use Rattle.square.specs.Mask.{maskAt, rowOnes, columnOnes, weighs, common, weight, Common}
 use Rattle.square.specs.Inner.{lineOnes}
 use Rattle.square.proofs.Counts.{count-small}
@@ -26,12 +26,6 @@ count-all f n = (
       let low = crowd (below n) f (below n) (nodup-range 0 n) (nodup-range 0 n) (λ x m. (m, all x (let r = mem-range x 0 n m in omega arith))) in
       omega (arith, count-small f n, length-range 0 n),
 )
-
-range-at : (s n i : ℕ) → i < n → getD (range s n) i 0 ≡ s + i
-unfolding range
-range-at s zero i h = absurd (omega arith)
-range-at s (suc n) zero h = omega arith
-range-at s (suc n) (suc i) h = omega (arith, range-at (suc s) n i (omega arith))
 
 module _ (J : ℕ) (mask : List ℕ) where
   abbrev in-row : ℕ → ℕ → Bool
@@ -62,7 +56,7 @@ module _ (J : ℕ) (mask : List ℕ) where
       let p = firstPlace (weighs J mask) l in
       let h : p < length l = ltb-true p (length l) e in
       let k : p < J - 3 = omega (arith, length-range 4 (J - 3)) in
-      weighs-iff (4 + p) (omega arith) (omega arith) .0 (ap (weighs J mask) (sym (range-at 4 (J - 3) p k)) ∙ at-first (weighs J mask) 0 l h)
+      weighs-iff (4 + p) (omega arith) (omega arith) .0 (ap (weighs J mask) (sym (getD-range 4 (J - 3) p k)) ∙ at-first (weighs J mask) 0 l h)
 
   common-if : (L : ℕ) → Common J mask L → common J mask ≡ true
   unfolding common
@@ -70,7 +64,7 @@ module _ (J : ℕ) (mask : List ℕ) where
       let h : L - 4 < J - 3 = omega (arith, w .least, w .most) in
       by-bool (common J mask) (λ e. e) (λ e.
       both-ways (weighs-iff L (w .least) (w .most) .1 w)
-      (ap (weighs J mask) (let r : L ≡ getD (range 4 (J - 3)) (L - 4) 0 = omega (arith, range-at 4 (J - 3) (L - 4) h, w .least) in r)
+      (ap (weighs J mask) (let r : L ≡ getD (range 4 (J - 3)) (L - 4) 0 = omega (arith, getD-range 4 (J - 3) (L - 4) h, w .least) in r)
       ∙ somewhere-no (weighs J mask) 0 (range 4 (J - 3)) e (L - 4) (omega (arith, length-range 4 (J - 3)))))
 
   -- THE LAW: refusal 12 applies exactly where no common weight exists

@@ -1,5 +1,5 @@
 -- Laws of `lowestOdd`: it is the first odd check, or the number of checks, which are few. Assumes nothing.
-use Prim.Native.Nat.{ℕ, zero, suc, _+_, _*_, _≤_, _<_}
+use Prim.Native.Nat.{ℕ, _*_, _≤_, _<_}
 use mathlib.Core.Path.{_≡_, sym, ap, _∙_}
 use mathlib.Core.Bool.{Bool, false}
 use mathlib.Core.List.{List}
@@ -10,21 +10,15 @@ use lib.Dec.{eqb}
 use lib.IntN.{ℤ}
 use lib.ListN.{getD}
 use Rattle.refusal.proofs.Place.{first-at, first-none, first-le, before-first, at-first}
-use Rattle.graph.specs.Count.{range, below}
+use Rattle.graph.specs.Count.{below}
 use Rattle.graph.specs.Graph.{Bipartite}
 use Rattle.graph.specs.Erasure.{parity}
-use Rattle.graph.proofs.Count.{length-range}
+use Rattle.graph.proofs.Count.{length-range, getD-range}
 use Rattle.exponent.specs.Limits.{WellFormed}
 use Rattle.syndrome.specs.Check.{lowestOdd}
 
 pub few-checks : (plan : List ℤ) (rows cols lift : ℕ) → WellFormed plan rows cols lift → rows * lift ≤ 786432
 few-checks plan rows cols lift w = mul-le-mul (w .few-rows) (w .small-lift)
-
-getD-range : (s n i : ℕ) → i < n → getD (range s n) i 0 ≡ s + i
-unfolding range
-getD-range s zero i h = absurd (let z : ⊥ = omega arith in z)
-getD-range s (suc n) zero h = omega arith
-getD-range s (suc n) (suc i) h = omega (arith, getD-range (suc s) n i (omega arith))
 
 module _ (G : Bipartite) (word : List ℕ) where
   abbrev odd : ℕ → Bool

@@ -19,11 +19,11 @@ use Rattle.exponent.specs.declared.block.Block.{Block}
 use Rattle.exponent.specs.declared.block.Block.the-variants.{Zero, Shift, Invalid}
 use Rattle.exponent.specs.declared.Shape.{Shape}
 use Rattle.exponent.specs.Plan.{blockAt, filled}
-use Rattle.index.specs.Index.{NextFrom, filledAt}
 use Rattle.exponent.specs.Tanner.{tanner}
 use Rattle.exponent.specs.Neighbours.{gather, bitIn}
 use Rattle.exponent.proofs.Blocks.{gather-last, gather-skip}
 use Rattle.exponent.proofs.Tanner.{bits-of-check}
+use Rattle.index.specs.Index.{NextFrom, filledAt}
 use Rattle.syndrome.specs.declared.scan.Scan.{Scan}
 use Rattle.syndrome.specs.Scan.{Scanned, AddedBit, AddedBlock}
 

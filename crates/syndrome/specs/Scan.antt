@@ -12,8 +12,8 @@ use Rattle.exponent.specs.declared.block.Block.{Block}
 use Rattle.exponent.specs.declared.block.Block.the-variants.{Shift}
 use Rattle.exponent.specs.declared.Shape.{Shape}
 use Rattle.exponent.specs.Limits.{WellFormed}
-use Rattle.index.specs.Index.{AlongIndex}
 use Rattle.exponent.specs.Neighbours.{gather, bitIn}
+use Rattle.index.specs.Index.{AlongIndex}
 use Rattle.syndrome.specs.declared.scan.Scan.{Scan}
 
 -- how many of the bits are erasures, the sum of the bytes, and an erasure, if there is one

@@ -3,8 +3,8 @@ use refusal::Refusal;
 ghost use mathlib.Core.Path.{_≡_};
 ghost use Rattle.refusal.specs.Lowest.{lowest};
 ghost use Rattle.refusal.specs.Place.{firstPlace};
-ghost use Rattle.exponent.specs.Limits.{validity};
 ghost use Rattle.graph.specs.Filling.{erasures};
+ghost use Rattle.exponent.specs.Limits.{validity};
 ghost use Rattle.syndrome.specs.Word.{symbolOf, sought, byteRules};
 
 // A byte of a word (document 01: frame byte).

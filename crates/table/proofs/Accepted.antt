@@ -18,11 +18,11 @@ use Rattle.exponent.proofs.Rules.{inside}
 use Rattle.square.specs.Table.{tableAt, unsound}
 use Rattle.square.specs.Mask.{maskAt, weight, Common}
 use Rattle.square.proofs.Weights.{weight-common}
-use Rattle.table.specs.declared.judge.Verdict.the-variants.{Accepted, Refused}
 use Rattle.grid.specs.Plan.{planRows, planCols, tablePlan}
+use Rattle.grid.proofs.Shape.{plan-length}
+use Rattle.table.specs.declared.judge.Verdict.the-variants.{Accepted, Refused}
 use Rattle.table.specs.Build.{tableRules, maskRules, buildRules, verdict}
 use Rattle.table.specs.Write.{Ready}
-use Rattle.grid.proofs.Shape.{plan-length}
 
 -- what a verdict tells of the rules
 pub accepts : (o : Option Refusal) (n m : ℕ) → Accepted m ≡ verdict o n → (o ≡ none) × (m ≡ n)

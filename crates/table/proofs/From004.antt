@@ -9,10 +9,10 @@ use Rattle.refusal.specs.Lowest.{lowest}
 use Rattle.square.specs.Table.{tableAt}
 use Rattle.square.specs.Mask.{maskAt, weight}
 use Rattle.grid.specs.Plan.{planRows, planCols}
-use Rattle.table.specs.Build.{buildRules, builtPlan}
 use Rattle.grid.specs.Source004.{keptColumns, keptRows, target, written}
-use Rattle.table.proofs.Accepted.{taken}
 use Rattle.grid.proofs.Source004.{source-004, shape-004}
+use Rattle.table.specs.Build.{buildRules, builtPlan}
+use Rattle.table.proofs.Accepted.{taken}
 
 -- and so is every plan that `build` builds
 pub built-from-004 : (order lift : ℕ) (table : List ℤ) (mask : List ℕ) (room : ℕ) → lowest (buildRules order lift table mask room) ≡ none

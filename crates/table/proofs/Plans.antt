@@ -23,11 +23,11 @@ use Rattle.square.proofs.Totals.{tally-places}
 use Rattle.square.proofs.Repeats.{sound-exactly}
 use Rattle.grid.specs.declared.Part.the-variants.{AJ}
 use Rattle.grid.specs.Plan.{columns, rows, rowOf, meets, shiftAt, planRows, planCols, tablePlan}
-use Rattle.table.specs.Build.{supplyRules, tableRules, maskRules, buildRules, builtPlan}
 use Rattle.grid.proofs.Columns.{cols-small}
 use Rattle.grid.proofs.Listed.{mem-column, mem-row}
 use Rattle.grid.proofs.Shape.{point, columns-count, rows-count, plan-length, column-three, row-meets}
 use Rattle.grid.proofs.Edges.{entry-valid, entry-filled, nth-row, nth-column, plan-at, block-is, plan-passes-12}
+use Rattle.table.specs.Build.{supplyRules, tableRules, maskRules, buildRules, builtPlan}
 use Rattle.table.proofs.Accepted.{taken}
 
 -- the numbers of the refusals rise, whatever is lent

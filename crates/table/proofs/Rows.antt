@@ -5,17 +5,17 @@ use mathlib.Core.Bool.{Bool, true, false}
 use mathlib.Core.List.{List, [], _∷_}
 use lib.IntN.{ℤ}
 use lib.ListN.{set}
+use Rattle.writing.specs.Wrote.{Wrote}
+use Rattle.writing.proofs.Wrote.{wrote-none, wrote-one}
 use Rattle.square.specs.Each.{upon}
 use Rattle.square.specs.Table.{tableAt}
 use Rattle.square.specs.Mask.{maskAt}
-use Rattle.writing.specs.Wrote.{Wrote}
-use Rattle.writing.proofs.Wrote.{wrote-none, wrote-one}
 use Rattle.grid.specs.declared.Part.{Part}
 use Rattle.grid.specs.declared.Row.{Row}
 use Rattle.grid.specs.declared.Column.{Column}
-use Rattle.table.specs.declared.write.Size.{Size}
 use Rattle.grid.specs.Plan.{rowOf, entry}
 use Rattle.grid.specs.Inner.{keeps}
+use Rattle.table.specs.declared.write.Size.{Size}
 use Rattle.table.specs.Write.{cell, cells, line}
 
 -- the entries of one column

@@ -5,21 +5,21 @@ use mathlib.Core.List.{List, [], _∷_, _++_, map}
 use native.Mathlib.Omega.{arith}
 use lib.IntN.{ℤ}
 use lib.ListN.{length, length-append}
+use Rattle.writing.specs.Wrote.{Wrote}
+use Rattle.writing.proofs.Wrote.{wrote-then, wrote-all}
 use Rattle.square.specs.Each.{each, upon, grid}
 use Rattle.square.specs.Table.{tableAt}
 use Rattle.square.specs.Mask.{maskAt}
-use Rattle.writing.specs.Wrote.{Wrote}
 use Rattle.square.proofs.Each.{each-digits, map-each, map-upon, grid-append, grid-each, grid-upon}
-use Rattle.writing.proofs.Wrote.{wrote-then, wrote-all}
 use Rattle.grid.specs.declared.Part.{Part}
 use Rattle.grid.specs.declared.Part.the-variants.{AJ, AR, JR}
 use Rattle.grid.specs.declared.Row.{Row}
 use Rattle.grid.specs.declared.Column.{Column}
-use Rattle.table.specs.declared.write.Size.{Size}
 use Rattle.grid.specs.Plan.{columns, rows, rowOf, entry, tablePlan}
 use Rattle.grid.specs.Inner.{column, keeps}
-use Rattle.table.specs.Write.{cell, cells, line, lines}
 use Rattle.grid.proofs.Columns.{columns-are}
+use Rattle.table.specs.declared.write.Size.{Size}
+use Rattle.table.specs.Write.{cell, cells, line, lines}
 
 module _ (size : Size) (table : List ℤ) (mask : List ℕ) where
   abbrev J : ℕ

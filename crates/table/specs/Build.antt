@@ -14,13 +14,13 @@ use Rattle.exponent.specs.Limits.{outside}
 use Rattle.square.specs.declared.search.Quad.{Quad}
 use Rattle.square.specs.Table.{tableAt, negative, unsound, firstRepeat}
 use Rattle.square.specs.Mask.{maskAt, common, weight}
+use Rattle.grid.specs.Plan.{planRows, planCols, tablePlan}
 use Rattle.table.specs.declared.Supplied.{Supplied as SuppliedAnswer}
 use Rattle.table.specs.declared.Supplied.the-variants.{Supplied, Refused as NotSupplied}
 use Rattle.table.specs.declared.Built.{Built as BuiltAnswer}
 use Rattle.table.specs.declared.Built.the-variants.{Built, Refused as NotBuilt}
 use Rattle.table.specs.declared.judge.Verdict.{Verdict}
 use Rattle.table.specs.declared.judge.Verdict.the-variants.{Accepted, Refused}
-use Rattle.grid.specs.Plan.{planRows, planCols, tablePlan}
 
 -- what lent memory holds: the new list, or what it held where there is a refusal
 abbrev pub lent : Option Refusal → List ℤ → List ℤ → List ℤ

@@ -12,9 +12,9 @@ use Rattle.square.specs.Inner.{Square}
 use Rattle.grid.specs.declared.Part.{Part}
 use Rattle.grid.specs.declared.Row.{Row}
 use Rattle.grid.specs.declared.Column.{Column}
-use Rattle.table.specs.declared.write.Size.{Size}
 use Rattle.grid.specs.Inner.{column, keeps}
 use Rattle.grid.specs.Plan.{rowOf, entry, tablePlan}
+use Rattle.table.specs.declared.write.Size.{Size}
 
 -- the lent table, mask and numbers are in range
 pub record Ready (size : Size) (table : List ℤ) (mask : List ℕ) : Type 0 where

@@ -9,7 +9,7 @@ ghost use Rattle.table.specs.Build.{lent, supplyRules, supplied, buildRu
 
 mod write; // write.rt: the plan, written row by row
 mod judge; // judge.rt: refusals 3, 7 to 13 and 15 in their order
-mod supply; // supply.rt: a supplied table, or refusals 7 and 8
+pub mod supply; // supply.rt: a supplied table, or refusals 7 and 8
 
 use judge::Verdict;
 use refusal::Refusal;

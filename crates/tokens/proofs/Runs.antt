@@ -11,11 +11,11 @@ use lib.ListN.{length, getD, take, drop, drop-of-length-le, length-drop}
 use lib.Seq.{drop-cons, take-suc, take-length, length-take-le}
 use borrow.Author.Tests.{eqb-true, eq-eqb, ne-eqb}
 use Rattle.graph.proofs.Decide.{by-bool, both-ways}
-use Rattle.tokens.specs.declared.Step.the-variants.{Next, Wrong}
 use Rattle.decimal.specs.Decimal.{digit, decimal}
+use Rattle.decimal.proofs.Digits.{decimal-small, decimal-step, decimal-ends}
+use Rattle.tokens.specs.declared.Step.the-variants.{Next, Wrong}
 use Rattle.tokens.specs.Tokens.{blank, blanks, token, tokenAt, start, same}
 use Rattle.tokens.specs.Steps.{expectAt}
-use Rattle.decimal.proofs.Digits.{decimal-small, decimal-step, decimal-ends}
 
 pub not-9-10-13 : (b : ℕ) → (b ≡ 9 → ⊥) → (b ≡ 10 → ⊥) → (b ≡ 13 → ⊥) → eqb b 32 ≡ blank b
 unfolding blank

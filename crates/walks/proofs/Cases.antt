@@ -2,12 +2,11 @@
 use mathlib.Core.Path.{_≡_, refl}
 use mathlib.Core.List.{[], _∷_}
 use mathlib.Core.Option.{none, some}
-use lib.IntN.{pos}
-use Rattle.exponent.specs.Plan.{entryAt, blockAt}
+use Rattle.exponent.specs.Plan.{shifts, entryAt, blockAt}
 use Rattle.walks.specs.Search.{Blocks, blocksOf, firstOf, atCheck, closedWalk}
 
 abbrev small : Blocks
-small = blocksOf (pos 0 ∷ pos 0 ∷ pos 0 ∷ pos 1 ∷ []) (record { rows = 2; cols = 2; lift = 2 })
+small = blocksOf (shifts (0 ∷ 0 ∷ 0 ∷ 1 ∷ [])) (record { rows = 2; cols = 2; lift = 2 })
 
 pub three-open : closedWalk small 3 ≡ none
 unfolding closedWalk firstOf atCheck entryAt blockAt

@@ -4,7 +4,7 @@ use Prim.Native.Nat.{ℕ, zero, suc, _+_, _-_, _*_, _/_, _%_, _≤_, _<_}
 use mathlib.Core.Path.{_≡_, refl, sym, ap, ap₂, subst, _∙_}
 use mathlib.Core.Logic.{_≢_, inl, inr}
 use mathlib.Core.List.{List, [], _∷_}
-use mathlib.Core.Option.{none, some}
+use mathlib.Core.Option.{none, some, Option·none-ne-some}
 use native.Mathlib.Omega.{arith}
 use native.Mathlib.Nat.{div-add-mod'}
 use lib.IntN.{ℤ}
@@ -14,12 +14,12 @@ use Rattle.graph.proofs.Lists.{Mem, last}
 use Rattle.graph.proofs.Walks.{Node, check, bit, check-inj, bit-inj, check-not-bit, Adj, Walk}
 use Rattle.graph.proofs.Closed.{ClosedAt}
 use Rattle.exponent.specs.declared.position.Position.{Position}
-use Rattle.exponent.specs.Tanner.{tanner, graphOf}
-use Rattle.exponent.proofs.Numbers.{block-of, place-of, number-low, block-low}
 use Rattle.exponent.specs.declared.Shape.{Shape}
+use Rattle.exponent.specs.Tanner.{tanner, graphOf}
+use Rattle.exponent.proofs.Numbers.{same-number, block-of, place-of, number-low, block-low}
 use Rattle.walks.specs.Search.{Blocks, blocksOf, toColumn, toRow, Joint, Result, andThen, after, home, joint, atBit, closing, atCheck, origin, closedWalk}
-use Rattle.walks.proofs.Found.{none-some, some-at, none-at, after-some, after-none, home-some}
-use Rattle.walks.proofs.Link.{checkFrom, bitFrom, same-number, edge-over, same-bit, same-check, bit-some, check-some, bit-step, check-step}
+use Rattle.walks.proofs.Found.{some-at, none-at, after-some, after-none, home-some}
+use Rattle.walks.proofs.Link.{checkFrom, bitFrom, edge-over, same-bit, same-check, bit-some, check-some, bit-step, check-step}
 
 -- the vertices that an answer shows, in order
 unfoldable pub nodes : List Joint → List Node
@@ -132,7 +132,7 @@ module _ (plan : List ℤ) (s : Shape) where
 
       missed-last : (b c : ℕ) → Joined G c b → Joined G c z → bit b ≢ bit z → closing B (z / P) (checkFrom P b c) ≡ none → ⊥
       missed-last b c j u x e =
-          none-some (here b c (bitFrom P c z) ∷ []) (sym (missed-column (ending b c) b c z j u x e) ∙ ap (λ (v : ℕ). home v (here b c (bitFrom P c z))) at-0)
+          Option·none-ne-some (here b c (bitFrom P c z) ∷ []) (sym (missed-column (ending b c) b c z j u x e) ∙ ap (λ (v : ℕ). home v (here b c (bitFrom P c z))) at-0)
 
       missed-more : (d b c a f : ℕ) → Joined G c b → Joined G c a → Joined G f a → bit b ≢ bit a → check c ≢ check f → z / P ≤ a / P
           → search (suc d) (checkFrom P b c) ≡ none → search d (checkFrom P a f) ≡ none

@@ -5,9 +5,9 @@ use mathlib.Core.Path.{_≡_, refl, sym, ap, ap₂, _∙_}
 use mathlib.Core.Logic.{_≢_}
 use mathlib.Core.Bool.{Bool, true, false}
 use mathlib.Core.List.{List}
-use mathlib.Core.Option.{some}
+use mathlib.Core.Option.{some, Option·none-ne-some}
 use native.Mathlib.Omega.{arith}
-use native.Mathlib.Nat.{mod-lt, div-add-mod'}
+use native.Mathlib.Nat.{mod-lt}
 use borrow.Author.Tests.{eqb-true, eq-eqb, eqb-false, ne-eqb}
 use lib.Dec.{eqb}
 use lib.IntN.{ℤ}
@@ -15,14 +15,13 @@ use Rattle.graph.specs.Graph.{Joined}
 use Rattle.exponent.specs.declared.block.Block.{Block}
 use Rattle.exponent.specs.declared.block.Block.the-variants.{Zero, Shift, Invalid}
 use Rattle.exponent.specs.declared.position.Position.{Position}
+use Rattle.exponent.specs.declared.Shape.{Shape}
 use Rattle.exponent.specs.Plan.{blockAt}
 use Rattle.exponent.specs.Position.{forward, back}
 use Rattle.exponent.specs.Tanner.{edge, tanner, graphOf}
-use Rattle.exponent.proofs.Numbers.{block-of, place-of, number-low, block-low, undo}
+use Rattle.exponent.proofs.Numbers.{same-number, block-of, place-of, number-low, block-low, undo}
 use Rattle.exponent.proofs.Tanner.{shift-low}
-use Rattle.exponent.specs.declared.Shape.{Shape}
 use Rattle.walks.specs.Search.{Joint, Result, blocksOf, over, unless, toColumn, toRow, andThen}
-use Rattle.walks.proofs.Found.{none-some}
 
 -- at check c, come from bit b; and at bit b, come from check c
 abbrev pub checkFrom : ℕ → ℕ → ℕ → Position
@@ -31,17 +30,13 @@ checkFrom lift b c = record { row = c / lift; col = b / lift; voltage = c % lift
 abbrev pub bitFrom : ℕ → ℕ → ℕ → Position
 bitFrom lift c b = record { row = c / lift; col = b / lift; voltage = b % lift }
 
--- a number is told by its block and its place
-pub same-number : (lift a b : ℕ) → a / lift ≡ b / lift → a % lift ≡ b % lift → a ≡ b
-same-number lift a b p q = sym (div-add-mod' a lift) ∙ ap₂ (λ (x y : ℕ). x * lift + y) p q ∙ div-add-mod' b lift
-
 -- An answer behind a step to row or column i, come from k: the block is filled, and another one than was just used.
 module _ (f : ℕ → Position) (next : Position → Result) where
   taken : (b : Block) (t : Bool) (l : List Joint) → andThen (unless t (over b f)) next ≡ some l → (t ≡ false) × ((e : ℕ) × (b ≡ Shift e) × (next (f e) ≡ some l))
-  taken b true l h = absurd (none-some l h)
-  taken Zero false l h = absurd (none-some l h)
+  taken b true l h = absurd (Option·none-ne-some l h)
+  taken Zero false l h = absurd (Option·none-ne-some l h)
   taken (Shift e) false l h = (refl, (e, refl, h))
-  taken Invalid false l h = absurd (none-some l h)
+  taken Invalid false l h = absurd (Option·none-ne-some l h)
 
   takes : (b : Block) (i k e : ℕ) (q : Position) → i ≢ k → b ≡ Shift e → f e ≡ q → andThen (unless (eqb i k) (over b f)) next ≡ next q
   takes b i k e q d h p = ap₂ (λ (t : Bool) (x : Block). andThen (unless t (over x f)) next) (ne-eqb i k d) h ∙ ap next p

@@ -5,8 +5,8 @@ use native.Mathlib.Omega.{arith}
 use lib.IntN.{ℤ}
 use lib.ListN.{getD}
 use Rattle.graph.specs.Girth.{Passes}
-use Rattle.exponent.specs.Tanner.{tanner}
 use Rattle.exponent.specs.declared.Shape.{Shape}
+use Rattle.exponent.specs.Tanner.{tanner}
 use Rattle.walks.proofs.Link.{edge-over, same-check}
 
 pub one-row-passes : (plan : List ℤ) (cols lift : ℕ) → 0 < lift → (t : ℕ) → Passes (tanner plan 1 cols lift) t

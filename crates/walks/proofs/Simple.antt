@@ -12,11 +12,11 @@ use Rattle.graph.specs.Graph.{Bipartite}
 use Rattle.graph.specs.Girth.{SimpleCycle}
 use Rattle.graph.proofs.Lists.{Mem, least-of, mem-image, each-image, decNodup}
 use Rattle.graph.proofs.Walks.{Node, check, bit, same?, Adj, core-cycle}
-use Rattle.graph.proofs.Cycles.{Short, checks-of, bits-of, walk-cycle, short-cycle}
+use Rattle.graph.proofs.Cycles.{Short, numbers, checks-of, bits-of, walk-cycle, short-cycle}
 use Rattle.graph.proofs.Closed.{cycle-at}
+use Rattle.exponent.specs.declared.Shape.{Shape}
 use Rattle.exponent.specs.Tanner.{turn, graphOf}
 use Rattle.exponent.proofs.Turning.{turn-block, turn-cycle, turn-home}
-use Rattle.exponent.specs.declared.Shape.{Shape}
 use Rattle.walks.specs.Search.{Joint, blocksOf, closedWalk}
 use Rattle.walks.proofs.Closed.{nodes, found-walk, met-walk}
 
@@ -33,12 +33,12 @@ nodes-length [] = refl
 nodes-length (e ∷ l) = omega (arith, nodes-length l)
 
 nodes-checks : (l : List Joint) → checks-of (nodes l) ≡ checksIn l
-unfolding nodes checks-of
+unfolding nodes numbers
 nodes-checks [] = refl
 nodes-checks (e ∷ l) = ap (λ (m : List ℕ). e .check ∷ m) (nodes-checks l)
 
 nodes-bits : (l : List Joint) → bits-of (nodes l) ≡ bitsIn l
-unfolding nodes bits-of
+unfolding nodes numbers
 nodes-bits [] = refl
 nodes-bits (e ∷ l) = ap (λ (m : List ℕ). e .bit ∷ m) (nodes-bits l)
 

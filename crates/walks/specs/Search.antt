@@ -8,10 +8,10 @@ use lib.IntN.{ℤ}
 use Rattle.exponent.specs.declared.block.Block.{Block}
 use Rattle.exponent.specs.declared.block.Block.the-variants.{Zero, Shift, Invalid}
 use Rattle.exponent.specs.declared.position.Position.{Position}
+use Rattle.exponent.specs.declared.Shape.{Shape}
 use Rattle.exponent.specs.Limits.{WellFormed}
 use Rattle.exponent.specs.Plan.{blockAt}
 use Rattle.exponent.specs.Position.{forward, back}
-use Rattle.exponent.specs.declared.Shape.{Shape}
 use Rattle.walks.specs.declared.Step.{Step}
 use Rattle.walks.specs.declared.Step.the-variants.{Stay, To}
 use Rattle.walks.specs.declared.trail.Found.{Found}

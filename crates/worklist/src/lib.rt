@@ -7,10 +7,10 @@ use syndrome::scan;
 ghost use mathlib.Core.Path.{_≡_};
 ghost use Prim.Native.Nat.{_+_, _*_, _<_, _≤_};
 ghost use Rattle.graph.specs.Filling.{clash};
-ghost use Rattle.index.specs.Index.{DownIndex};
 ghost use Rattle.exponent.specs.Limits.{WellFormed};
-ghost use Rattle.syndrome.specs.Scan.{Ready};
 ghost use Rattle.exponent.specs.Tanner.{graphOf};
+ghost use Rattle.index.specs.Index.{DownIndex};
+ghost use Rattle.syndrome.specs.Scan.{Ready};
 ghost use Rattle.worklist.specs.Work.{Pending, FilledCheck, Worked, Passed, Peeled};
 
 pub mod marks; // marks.rt: turning marked bytes back or into bits

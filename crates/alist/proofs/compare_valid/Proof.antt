@@ -1,9 +1,9 @@
 -- `alist::compare_valid` meets its contract. Assumes nothing.
 use mathlib.Core.Path.{sym, _∙_}
 use borrow.Author.Needs.{needs}
+use Rattle.exponent.specs.Tanner.{graphOf}
 use Rattle.tokens.specs.Tokens.{mismatch}
 use Rattle.lines.specs.Alist.{linesOf}
-use Rattle.exponent.specs.Tanner.{graphOf}
 use Rattle.lines.specs.Text.{numbersOf}
 use Rattle.alist.proofs.Answers.{verdict-same, verdict-differs}
 use Rattle.alist.proofs.compare_valid.Statement.{statement}

@@ -1,12 +1,11 @@
 -- `comparer::compare_from` meets its contract. Assumes nothing.
 use mathlib.Core.Path.{ap, _∙_}
 use borrow.Author.Needs.{needs}
-use Rattle.index.proofs.Skips.{index-made, index-kept}
 use Rattle.exponent.specs.declared.Shape.{Shape}
+use Rattle.exponent.specs.Tanner.{graphOf}
+use Rattle.index.proofs.Skips.{index-made, index-kept, to-build}
 use Rattle.tokens.specs.Tokens.{mismatch}
 use Rattle.lines.specs.Alist.{linesOf}
-use Rattle.exponent.specs.Tanner.{graphOf}
-use Rattle.lines.proofs.Lanes.{index-room}
 use Rattle.lines.specs.Text.{numbersOf}
 use Rattle.comparer.specs.Verdict.{verdict}
 use Rattle.comparer.proofs.compare_from.Statement.{statement}
@@ -19,10 +18,7 @@ slice-aggregate-build-2 : tie.Need-slice-aggregate-build-2
 slice-aggregate-build-2 c = index-made
 
 build-requires : tie.Need-build-requires
-build-requires c κs =
-    let t = c .before .before .before in
-    let h = index-room (t .args .plan .now) (t .args .s) (t .pre .0) in
-    (t .pre .0, h, h)
+build-requires c κs = to-build (c .before .before .before .pre .0)
 
 slice-aggregate-measure : tie.Need-slice-aggregate-measure
 slice-aggregate-measure c = index-kept (c .before .before .before .build .kept .1 .1 .0)

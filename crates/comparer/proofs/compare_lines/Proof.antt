@@ -6,16 +6,16 @@ use mathlib.Core.List.{List, [], _∷_}
 use native.Mathlib.Omega.{arith}
 use lib.ListN.{length}
 use borrow.Author.Needs.{needs}
+use Rattle.exponent.specs.Tanner.{graphOf}
 use Rattle.tokens.specs.Tokens.{mismatch}
 use Rattle.tokens.proofs.Reading.{line-le}
 use Rattle.lines.specs.declared.sides.Side.the-variants.{Bits, Checks}
 use Rattle.lines.specs.Alist.{linesOf}
-use Rattle.exponent.specs.Tanner.{graphOf}
 use Rattle.lines.specs.Sides.{Small}
 use Rattle.lines.specs.Lines.{lineOf}
+use Rattle.lines.specs.Text.{numbersOf}
 use Rattle.lines.proofs.Lanes.{small, nodes-few}
 use Rattle.lines.proofs.Rest.{linesFrom, lines-start, lines-next, lines-end}
-use Rattle.lines.specs.Text.{numbersOf}
 use Rattle.comparer.specs.Verdict.{verdict}
 use Rattle.comparer.proofs.Reading.{line-right, line-wrong, extra, agrees}
 use Rattle.comparer.proofs.compare_lines.Statement.{statement}

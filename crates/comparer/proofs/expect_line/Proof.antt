@@ -4,9 +4,9 @@ use Prim.Native.Nat.{_-_, _≤_}
 use mathlib.Core.Path.{_≡_, sym, ap, _∙_}
 use lib.ListN.{length}
 use borrow.Author.Needs.{needs}
+use Rattle.exponent.specs.Tanner.{graphOf}
 use Rattle.tokens.specs.Steps.{readLine}
 use Rattle.tokens.proofs.Reading.{expect-le, read-next, read-wrong, read-end}
-use Rattle.exponent.specs.Tanner.{graphOf}
 use Rattle.lines.specs.Lines.{lineOf, lineRest, Carried}
 use Rattle.lines.proofs.Lanes.{small}
 use Rattle.lines.proofs.Rest.{line-start, line-end, carried-start}

@@ -6,8 +6,8 @@ use native.Mathlib.Omega.{arith}
 use borrow.Author.Needs.{needs}
 use borrow.Fn.Kinds.{In}
 use borrow.Fn.PlainCycle.{Measures, is, falls, and}
-use Rattle.decimal.proofs.Digits.{decimal-small, decimal-two, decimal-hundred, length-small, length-below, length-hundred}
 use Rattle.writing.proofs.Wrote.{wrote-past, wrote-then}
+use Rattle.decimal.proofs.Digits.{decimal-small, decimal-two, decimal-hundred, length-small, length-below, length-hundred}
 use Rattle.decimal.proofs.put_number.Reads as put-number
 use Rattle.decimal.proofs.put_number.Kinds as put-number-kinds
 use Rattle.decimal.proofs.+put_number.Lts-put_number as put-number-lts

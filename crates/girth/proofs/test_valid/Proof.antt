@@ -1,17 +1,10 @@
 -- `girth::test_valid` meets its contract: its two lists have room for the largest plan, and the search asks for no more than `build` gives.
 -- Assumes nothing.
-use Prim.Native.Nat.{ℕ, _≤_}
-use native.Mathlib.Nat.{mul-le-mul}
 use native.Mathlib.Omega.{arith}
-use lib.ListN.{length, replicate, length-replicate}
 use borrow.Author.Needs.{needs}
-use Rattle.index.proofs.Skips.{index-made, index-kept}
+use Rattle.index.proofs.Skips.{index-made, index-kept, to-build}
 use Rattle.girth.proofs.test_valid.Statement.{statement}
 use Rattle.girth.proofs.test_valid.Tie as tie
-
--- an array has room for its length
-room : (n a k : ℕ) → k ≤ n → k ≤ length (replicate n a)
-room n a k h = rw length-replicate h
 
 slice-aggregate-build : tie.Need-slice-aggregate-build
 slice-aggregate-build c = index-made
@@ -20,10 +13,7 @@ slice-aggregate-build-2 : tie.Need-slice-aggregate-build-2
 slice-aggregate-build-2 c = index-made
 
 build-requires : tie.Need-build-requires
-build-requires c κs =
-    let w = c .before .before .pre .0 in
-    let h = mul-le-mul (w .few-rows) (w .few-cols) in
-    (w, room 98304 0 _ h, room 98304 0 _ h)
+build-requires c κs = to-build (c .before .before .pre .0)
 
 slice-aggregate-shortest-below : tie.Need-slice-aggregate-shortest-below
 slice-aggregate-shortest-below c = index-kept (c .before .before .before .build .kept .1 .1 .0)

@@ -6,8 +6,8 @@ use native.Mathlib.Omega.{arith}
 use lib.ListN.{length, length-set}
 use Rattle.exponent.specs.Plan.{blockAt, filled}
 use borrow.Author.Needs.{needs}
-use Rattle.index.specs.Index.{NextFrom, filledAt, IndexedFrom}
 use Rattle.exponent.proofs.Numbers.{number-low, place-small}
+use Rattle.index.specs.Index.{NextFrom, filledAt, IndexedFrom}
 use Rattle.index.proofs.Skips.{next-row, next-end, next-step, under-next, from-step}
 use Rattle.index.proofs.index_row.Statement.{statement}
 use Rattle.index.proofs.index_row.Tie as tie

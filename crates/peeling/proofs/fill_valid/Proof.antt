@@ -1,10 +1,8 @@
 -- `peeling::fill_valid` meets its contract: after the passes no check has exactly one erasure, so a clash means that no values fit, and without
 -- one the word is the filled word. Assumes nothing.
 use mathlib.Core.Path.{sym, ap, _∙_}
-use native.Mathlib.Omega.{arith}
 use borrow.Author.Needs.{needs}
-use Rattle.exponent.proofs.Numbers.{place-small}
-use Rattle.index.proofs.Skips.{index-made, index-kept}
+use Rattle.index.proofs.Skips.{index-made, index-kept, to-build}
 use Rattle.peeling.specs.declared.Filling.the-variants.{Filled}
 use Rattle.peeling.proofs.Ends.{refused-answer, refused-word, filled-answer, filled-word}
 use Rattle.peeling.proofs.fill_valid.Statement.{statement}
@@ -24,10 +22,7 @@ slice-aggregate-build-2 : tie.Need-slice-aggregate-build-2
 slice-aggregate-build-2 c = index-made
 
 build-requires : tie.Need-build-requires
-build-requires c κs =
-    let p = c .before .before .before .pre .0 in
-    let small = place-small _ _ (p .few-rows) (p .few-cols) in
-    (p, omega arith, omega arith)
+build-requires c κs = to-build (c .before .before .before .pre .0)
 
 slice-aggregate-peel : tie.Need-slice-aggregate-peel
 slice-aggregate-peel c = index-kept (c .before .before .before .build .kept .1 .1 .0)

@@ -1,7 +1,8 @@
 -- `qcldpc::qcldpc_alist_write` meets its contract: with room it gives the reply of what `write` answers, and leaves the text as that call does. Assumes nothing.
 use native.Mathlib.Omega.{arith}
 use borrow.Author.Needs.{needs}
-use Rattle.qcldpc.proofs.Room.{no-room, replied, kept, changed}
+use Rattle.qcldpc.specs.Door.{writtenReply}
+use Rattle.qcldpc.proofs.Room.{no-room, replied-by, kept, changed}
 use Rattle.qcldpc.proofs.qcldpc_alist_write.Statement.{statement}
 use Rattle.qcldpc.proofs.qcldpc_alist_write.Tie as tie
 
@@ -14,6 +15,9 @@ write-requires c κs = search needs
 written-requires : tie.Need-written-requires
 written-requires c κs = search needs
 
+give-requires : tie.Need-give-requires
+give-requires c κs = search needs
+
 same-length : tie.Need-same-length
 same-length c = search needs
 
@@ -22,10 +26,10 @@ same-length-2 c = search needs
 
 returns-2 : tie.Need-returns-2
 returns-2 c =
-    let r = c .before .before in
-    let v = r .before .before .before .before in
-    (replied (v .write .result) (v .write .ensures .0) (omega arith) (r .written .ensures), changed (omega arith) (v .write .ensures .1))
+    let g = c .before .before in
+    let r = g .before .before in
+    let a = r .before .before .before in
+    (replied-by writtenReply (a .write .result) (a .write .ensures .0) (omega arith) (r .written .result) (r .written .ensures) (g .give .ensures), changed (omega arith) (a .write .ensures .1))
 
 pub qcldpc-alist-write-spec : {M : Type 1} → statement M
-qcldpc-alist-write-spec =
-    tie.close (tie.spec returns write-requires written-requires same-length same-length-2 returns-2)
+qcldpc-alist-write-spec = tie.close (tie.spec returns write-requires written-requires give-requires same-length same-length-2 returns-2)

@@ -1,7 +1,8 @@
 -- `qcldpc::qcldpc_build` meets its contract: with room it gives the reply of what `build` answers, and leaves the plan as that call does. Assumes nothing.
 use native.Mathlib.Omega.{arith}
 use borrow.Author.Needs.{needs}
-use Rattle.qcldpc.proofs.Room.{no-room, replied, kept, changed}
+use Rattle.qcldpc.specs.Door.{builtReply}
+use Rattle.qcldpc.proofs.Room.{no-room, replied-by, kept, changed}
 use Rattle.qcldpc.proofs.qcldpc_build.Statement.{statement}
 use Rattle.qcldpc.proofs.qcldpc_build.Tie as tie
 
@@ -14,6 +15,9 @@ build-requires c κs = search needs
 built-requires : tie.Need-built-requires
 built-requires c κs = search needs
 
+give-requires : tie.Need-give-requires
+give-requires c κs = search needs
+
 same-length : tie.Need-same-length
 same-length c = search needs
 
@@ -22,10 +26,10 @@ same-length-2 c = search needs
 
 returns-2 : tie.Need-returns-2
 returns-2 c =
-    let r = c .before .before in
-    let v = r .before .before .before in
-    (replied (v .build .result) (v .build .ensures .0) (omega arith) (r .built .ensures), changed (omega arith) (v .build .ensures .1))
+    let g = c .before .before in
+    let r = g .before .before in
+    let a = r .before .before in
+    (replied-by builtReply (a .build .result) (a .build .ensures .0) (omega arith) (r .built .result) (r .built .ensures) (g .give .ensures), changed (omega arith) (a .build .ensures .1))
 
 pub qcldpc-build-spec : {M : Type 1} → statement M
-qcldpc-build-spec =
-    tie.close (tie.spec returns build-requires built-requires same-length same-length-2 returns-2)
+qcldpc-build-spec = tie.close (tie.spec returns build-requires built-requires give-requires same-length same-length-2 returns-2)

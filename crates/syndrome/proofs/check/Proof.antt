@@ -4,8 +4,8 @@ use mathlib.Core.Path.{_≡_, sym, _∙_}
 use mathlib.Core.Option.{none}
 use borrow.Author.Needs.{needs}
 use Rattle.refusal.specs.Lowest.{lowest}
-use Rattle.syndrome.specs.Word.{wordRules}
 use Rattle.exponent.proofs.Rules.{valid-none, refused-some}
+use Rattle.syndrome.specs.Word.{wordRules}
 use Rattle.syndrome.proofs.Rules.{word-accepted, word-refused, erasure-refused, not-refused}
 use Rattle.syndrome.proofs.check.Statement.{statement}
 use Rattle.syndrome.proofs.check.Tie as tie

@@ -4,8 +4,7 @@ use mathlib.Core.Path.{sym}
 use native.Mathlib.Omega.{arith}
 use borrow.Author.Needs.{needs}
 use borrow.Author.Tests.{lt-ltb, le-ltb}
-use Rattle.exponent.proofs.Numbers.{place-small}
-use Rattle.index.proofs.Skips.{index-made, index-kept}
+use Rattle.index.proofs.Skips.{index-made, index-kept, to-build}
 use Rattle.syndrome.proofs.Odds.{few-checks}
 use Rattle.syndrome.proofs.check_valid.Statement.{statement}
 use Rattle.syndrome.proofs.check_valid.Tie as tie
@@ -17,10 +16,7 @@ slice-aggregate-build-2 : tie.Need-slice-aggregate-build-2
 slice-aggregate-build-2 c = index-made
 
 build-requires : tie.Need-build-requires
-build-requires c κs =
-    let p = c .before .before .before .pre .0 in
-    let small = place-small _ _ (p .few-rows) (p .few-cols) in
-    (p, omega arith, omega arith)
+build-requires c κs = to-build (c .before .before .before .pre .0)
 
 slice-aggregate-lowest-odd : tie.Need-slice-aggregate-lowest-odd
 slice-aggregate-lowest-odd c = index-kept (c .before .before .before .build .kept .1 .1 .1 .0)

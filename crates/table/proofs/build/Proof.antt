@@ -10,10 +10,10 @@ use Rattle.refusal.specs.Lowest.{lowest}
 use Rattle.square.specs.Table.{tableAt}
 use Rattle.square.specs.Mask.{maskAt, weight}
 use Rattle.square.proofs.Places.{square}
-use Rattle.table.specs.declared.Built.the-variants.{Built}
 use Rattle.grid.specs.Plan.{planRows, planCols, tablePlan}
-use Rattle.table.specs.Build.{lent, buildRules, builtPlan, built}
 use Rattle.grid.proofs.Columns.{cols-small}
+use Rattle.table.specs.declared.Built.the-variants.{Built}
+use Rattle.table.specs.Build.{lent, buildRules, builtPlan, built}
 use Rattle.table.proofs.Accepted.{Taken, taken, ready, place-fits, accepts, refuses}
 use Rattle.table.proofs.build.Statement.{statement}
 use Rattle.table.proofs.build.Tie as tie

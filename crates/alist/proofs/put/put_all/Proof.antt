@@ -2,9 +2,9 @@
 -- length, and a second one writes where there is room for all. Assumes nothing.
 use native.Mathlib.Omega.{arith}
 use borrow.Author.Needs.{needs}
+use Rattle.exponent.specs.Tanner.{graphOf}
 use Rattle.lines.specs.Alist.{linesOf}
 use Rattle.lines.specs.Text.{textOf}
-use Rattle.exponent.specs.Tanner.{graphOf}
 use Rattle.lines.proofs.Lanes.{small}
 use Rattle.alist.proofs.Laid.{put-roomy, put-short, put-done}
 use Rattle.alist.proofs.Bounds.{text-fits, layout-few, layout-most}

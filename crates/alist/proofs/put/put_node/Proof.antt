@@ -5,12 +5,12 @@ use mathlib.Core.Path.{_≡_, refl, _∙_}
 use mathlib.Core.List.{[], _∷_}
 use lib.ListN.{length}
 use borrow.Author.Needs.{needs}
+use Rattle.writing.proofs.Wrote.{Going, going-start, part-room, part-done, last-done}
 use Rattle.exponent.specs.Tanner.{graphOf}
 use Rattle.lines.specs.declared.Line.the-variants.{Node}
 use Rattle.lines.specs.Lines.{lineOf, lineRest}
-use Rattle.lines.proofs.Rest.{line-start, line-end, node-next}
 use Rattle.lines.specs.Text.{item, lineFrom}
-use Rattle.writing.proofs.Wrote.{Going, going-start, part-room, part-done, last-done}
+use Rattle.lines.proofs.Rest.{line-start, line-end, node-next}
 use Rattle.alist.proofs.Laid.{lineFrom-next, lineFrom-end}
 use Rattle.alist.proofs.put.put_node.Statement.{statement}
 use Rattle.alist.proofs.put.put_node.Tie as tie

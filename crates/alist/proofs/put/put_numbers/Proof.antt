@@ -5,12 +5,12 @@ use mathlib.Core.Path.{_≡_, refl, _∙_}
 use mathlib.Core.List.{[], _∷_}
 use lib.ListN.{length}
 use borrow.Author.Needs.{needs}
+use Rattle.writing.proofs.Wrote.{Going, going-start, part-room, part-done, last-done}
 use Rattle.exponent.specs.Tanner.{graphOf}
 use Rattle.lines.specs.Lines.{lineOf, lineRest, Carried}
+use Rattle.lines.specs.Text.{item, lineFrom}
 use Rattle.lines.proofs.Lanes.{small}
 use Rattle.lines.proofs.Rest.{line-start, line-end, carried-start}
-use Rattle.lines.specs.Text.{item, lineFrom}
-use Rattle.writing.proofs.Wrote.{Going, going-start, part-room, part-done, last-done}
 use Rattle.alist.proofs.Laid.{lineFrom-next, lineFrom-end}
 use Rattle.alist.proofs.put.put_numbers.Statement.{statement}
 use Rattle.alist.proofs.put.put_numbers.Tie as tie

@@ -6,15 +6,15 @@ use mathlib.Core.List.{_∷_}
 use native.Mathlib.Omega.{arith}
 use lib.ListN.{length}
 use borrow.Author.Needs.{needs}
+use Rattle.writing.proofs.Wrote.{Going, going-start, part-room, part-done, all-done}
+use Rattle.exponent.specs.Tanner.{graphOf}
 use Rattle.lines.specs.declared.sides.Side.the-variants.{Bits, Checks}
 use Rattle.lines.specs.Alist.{linesOf}
-use Rattle.exponent.specs.Tanner.{graphOf}
 use Rattle.lines.specs.Sides.{Small}
 use Rattle.lines.specs.Lines.{lineOf}
+use Rattle.lines.specs.Text.{lineFrom, textOf}
 use Rattle.lines.proofs.Lanes.{small, nodes-few}
 use Rattle.lines.proofs.Rest.{linesFrom, lines-start, lines-next, lines-end}
-use Rattle.lines.specs.Text.{lineFrom, textOf}
-use Rattle.writing.proofs.Wrote.{Going, going-start, part-room, part-done, all-done}
 use Rattle.alist.proofs.Laid.{text-next, text-end}
 use Rattle.alist.proofs.put.put_text.Statement.{statement}
 use Rattle.alist.proofs.put.put_text.Tie as tie

@@ -1,12 +1,11 @@
 -- `alist::put::write_valid` meets its contract: with the index lists and the layout all lines are put. Assumes nothing.
 use mathlib.Core.Path.{ap}
 use borrow.Author.Needs.{needs}
-use Rattle.index.proofs.Skips.{index-made, index-kept}
 use Rattle.exponent.specs.declared.Shape.{Shape}
+use Rattle.exponent.specs.Tanner.{graphOf}
+use Rattle.index.proofs.Skips.{index-made, index-kept, to-build}
 use Rattle.lines.specs.Alist.{linesOf}
 use Rattle.lines.specs.Text.{textOf}
-use Rattle.exponent.specs.Tanner.{graphOf}
-use Rattle.lines.proofs.Lanes.{index-room}
 use Rattle.alist.proofs.Laid.{put-same}
 use Rattle.alist.proofs.put.write_valid.Statement.{statement}
 use Rattle.alist.proofs.put.write_valid.Tie as tie
@@ -18,10 +17,7 @@ slice-aggregate-build-2 : tie.Need-slice-aggregate-build-2
 slice-aggregate-build-2 c = index-made
 
 build-requires : tie.Need-build-requires
-build-requires c κs =
-    let t = c .before .before .before in
-    let h = index-room (t .args .plan .now) (t .args .s) (t .pre) in
-    (t .pre, h, h)
+build-requires c κs = to-build (c .before .before .before .pre)
 
 slice-aggregate-measure : tie.Need-slice-aggregate-measure
 slice-aggregate-measure c = index-kept (c .before .before .before .build .kept .1 .1 .0)

@@ -43,17 +43,17 @@ use denote.Triple.Table.{entered, cited}
 use denote.Triple.Walked.{says, Stays, stay-none, walkOf, goes-none, Walks, ends-at, walked, walk-meets}
 use denote.Exit.{yes}
 use denote.Triple.Clauses.{ensured, lasts}
-use Rattle.tokens.specs.Steps.{expectAt}
-use Rattle.comparer.specs.declared.reader.Reader.{Reader}
 use Rattle.tokens.specs.declared.Step.{Step}
-use Rattle.comparer.proofs.reader.Reader as T
-use Rattle.comparer.proofs.reader.Reader.Laws as T′
+use Rattle.tokens.specs.Steps.{expectAt}
 use Rattle.tokens.proofs.Step as S
 use Rattle.tokens.proofs.Step.Laws as S′
 use Rattle.tokens.proofs.expect_at as step
 use Rattle.tokens.proofs.expect_at.Symbol as step-def
 use Rattle.tokens.proofs.expect_at.Symbol.{name as #tokens·expect-at}
 use Rattle.tokens.proofs.expect_at.Met as step-thm
+use Rattle.comparer.specs.declared.reader.Reader.{Reader}
+use Rattle.comparer.proofs.reader.Reader as T
+use Rattle.comparer.proofs.reader.Reader.Laws as T′
 use Rattle.comparer.proofs.reader.expect.Key.{name as #comparer·expect}
 use Rattle.comparer.proofs.reader.expect as expect
 use Rattle.comparer.proofs.reader.expect.Statement as stated

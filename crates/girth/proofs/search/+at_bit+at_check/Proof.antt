@@ -7,12 +7,18 @@ use denote.Ref.{now}
 use borrow.Author.Needs.{needs}
 use borrow.Fn.Kinds.{In, Out}
 use borrow.Fn.PlainCycle.{Measures, is, falls, and}
+use Rattle.index.specs.Index.{NextFrom, filledAt}
+use Rattle.index.proofs.next.Reads as next-reads
 use Rattle.walks.specs.declared.Step.the-variants.{To}
 use Rattle.walks.specs.declared.trail.Found.the-variants.{Closed}
 use Rattle.walks.specs.Search.{Blocks, blocksOf, toColumn, toRow, Joint, Result, found, joint, atBit, atCheck, AtBit}
-use Rattle.index.specs.Index.{NextFrom, filledAt}
 use Rattle.walks.proofs.Loops.{left-stay, left-miss, left-hit, left-end, after-nothing, after-closed}
 use Rattle.walks.proofs.Steps.{listed, to-bit, to-check, push-same, BitLeft, at-bit-left, CheckLeft, at-last, at-check-left}
+use Rattle.walks.proofs.close.Reads as close-reads
+use Rattle.walks.proofs.number.Reads as number-reads
+use Rattle.walks.proofs.to_column.Reads as to-column-reads
+use Rattle.walks.proofs.to_row.Reads as to-row-reads
+use Rattle.walks.proofs.trail.Trail.push.Reads as push-reads
 use Rattle.girth.proofs.Skips.{left-skip, no-column, no-row}
 use Rattle.girth.proofs.search.at_bit.Reads as at-bit
 use Rattle.girth.proofs.search.at_bit.Kinds as at-bit-kinds
@@ -20,12 +26,6 @@ use Rattle.girth.proofs.search.+at_bit+at_check.Lts-at_bit as at-bit-lt
 use Rattle.girth.proofs.search.at_check.Reads as at-check
 use Rattle.girth.proofs.search.at_check.Kinds as at-check-kinds
 use Rattle.girth.proofs.search.+at_bit+at_check.Lts-at_check as at-check-lts
-use Rattle.walks.proofs.close.Reads as close-reads
-use Rattle.index.proofs.next.Reads as next-reads
-use Rattle.walks.proofs.number.Reads as number-reads
-use Rattle.walks.proofs.to_column.Reads as to-column-reads
-use Rattle.walks.proofs.to_row.Reads as to-row-reads
-use Rattle.walks.proofs.trail.Trail.push.Reads as push-reads
 use Rattle.girth.proofs.search.+at_bit+at_check.{statement}
 use Rattle.girth.proofs.search.+at_bit+at_check.Tie.{close}
 

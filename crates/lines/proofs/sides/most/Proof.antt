@@ -5,8 +5,8 @@ use mathlib.Core.Path.{_≡_, ap, _∙_}
 use mathlib.Core.Logic.{⊎-elim}
 use native.Mathlib.Omega.{arith}
 use borrow.Author.Needs.{needs}
-use Rattle.lines.specs.Alist.{degrees, greatest}
 use Rattle.exponent.specs.Tanner.{graphOf}
+use Rattle.lines.specs.Alist.{degrees, greatest}
 use Rattle.lines.specs.Sides.{lanes, weightOf}
 use Rattle.lines.proofs.Lanes.{lanes-few, small}
 use Rattle.lines.proofs.Weights.{mostFrom, most-start, most-next, most-end}

@@ -5,8 +5,8 @@ use mathlib.Core.Bool.{false}
 use native.Mathlib.Omega.{arith}
 use native.Mathlib.Nat.{mul-le-mul}
 use borrow.Author.Needs.{needs}
-use Rattle.exponent.specs.Plan.{filled}
 use Rattle.exponent.specs.declared.block.Block.the-variants.{Shift}
+use Rattle.exponent.specs.Plan.{filled}
 use Rattle.lines.specs.Sides.{blocks, blockOn, turned, numberIn}
 use Rattle.lines.proofs.Lanes.{number-past, number-filled, number-unfilled, turned-low, shift-on, small, blocks-few}
 use Rattle.lines.proofs.sides.number_in.Statement.{statement}

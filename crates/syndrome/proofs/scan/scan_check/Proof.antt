@@ -6,10 +6,10 @@ use native.Mathlib.Nat.{mod-lt}
 use native.Mathlib.Omega.{arith}
 use borrow.Author.Needs.{needs}
 use Rattle.graph.specs.Count.{range}
-use Rattle.index.specs.Index.{NextFrom, filledAt}
 use Rattle.exponent.specs.Neighbours.{gather}
 use Rattle.exponent.proofs.Numbers.{block-low, number-low}
 use Rattle.exponent.proofs.Tanner.{shift-low}
+use Rattle.index.specs.Index.{NextFrom, filledAt}
 use Rattle.syndrome.specs.Scan.{Scanned, Shifted}
 use Rattle.syndrome.proofs.Scanning.{scanned-none, rowBits, scanned-skip, scanned-block, scanned-row}
 use Rattle.syndrome.proofs.scan.scan_check.Statement.{statement}

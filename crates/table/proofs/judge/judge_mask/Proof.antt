@@ -15,10 +15,10 @@ use Rattle.refusal.proofs.Lowest.{lowest-here, lowest-next}
 use Rattle.square.specs.Mask.{common, weight}
 use Rattle.square.proofs.Places.{place, square}
 use Rattle.square.proofs.Weights.{weight-common, weight-is, first-line}
+use Rattle.grid.proofs.Columns.{cols-small, bits-small, plan-small}
 use Rattle.table.specs.declared.judge.Verdict.{Verdict}
 use Rattle.table.specs.declared.judge.Verdict.the-variants.{Accepted}
 use Rattle.table.specs.Build.{maskRules, verdict}
-use Rattle.grid.proofs.Columns.{cols-small, bits-small, plan-small}
 use Rattle.table.proofs.judge.judge_mask.Statement.{statement}
 use Rattle.table.proofs.judge.judge_mask.Tie as tie
 

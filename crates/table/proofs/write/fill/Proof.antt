@@ -2,8 +2,8 @@
 use native.Mathlib.Nat.{le-refl, mul-le-mul-right}
 use native.Mathlib.Omega.{arith}
 use borrow.Author.Needs.{needs}
-use Rattle.square.proofs.Places.{square}
 use Rattle.writing.proofs.Wrote.{wrote-length}
+use Rattle.square.proofs.Places.{square}
 use Rattle.table.proofs.Written.{sizes, all-written}
 use Rattle.table.proofs.write.fill.Statement.{statement}
 use Rattle.table.proofs.write.fill.Tie as tie

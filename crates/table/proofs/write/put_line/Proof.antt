@@ -4,8 +4,8 @@ use mathlib.Core.Path.{_∙_, sym}
 use mathlib.Core.Bool.{true, false}
 use native.Mathlib.Omega.{arith}
 use borrow.Author.Needs.{needs}
-use Rattle.square.proofs.Places.{place, small-place, digit, first-digit}
 use Rattle.writing.proofs.Wrote.{wrote-none}
+use Rattle.square.proofs.Places.{place, small-place, digit, first-digit}
 use Rattle.table.proofs.Rows.{line-is}
 use Rattle.table.proofs.write.put_line.Statement.{statement}
 use Rattle.table.proofs.write.put_line.Tie as tie

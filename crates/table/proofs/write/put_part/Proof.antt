@@ -5,10 +5,10 @@ use mathlib.Core.List.{List}
 use native.Mathlib.Nat.{le-trans}
 use native.Mathlib.Omega.{arith}
 use lib.IntN.{ℤ}
-use Rattle.square.specs.Each.{each}
 use Rattle.writing.specs.Wrote.{Wrote}
-use Rattle.square.proofs.Places.{square}
 use Rattle.writing.proofs.Wrote.{wrote-none, wrote-length}
+use Rattle.square.specs.Each.{each}
+use Rattle.square.proofs.Places.{square}
 use Rattle.square.proofs.Runs.{room, turn, done}
 use Rattle.table.specs.Write.{line, lines}
 use Rattle.table.proofs.write.put_part.Statement.{statement}

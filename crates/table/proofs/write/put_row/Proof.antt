@@ -4,14 +4,14 @@ use Prim.Native.Nat.{ℕ, _*_, _-_, _≤_}
 use mathlib.Core.List.{List}
 use native.Mathlib.Omega.{arith}
 use lib.IntN.{ℤ}
-use Rattle.square.specs.Each.{each}
 use Rattle.writing.specs.Wrote.{Wrote}
-use Rattle.square.proofs.Places.{square, cube}
 use Rattle.writing.proofs.Wrote.{wrote-none, wrote-length}
+use Rattle.square.specs.Each.{each}
+use Rattle.square.proofs.Places.{square, cube}
 use Rattle.square.proofs.Runs.{room, turn, done}
 use Rattle.grid.specs.Inner.{column}
-use Rattle.table.specs.Write.{cell, cells}
 use Rattle.grid.proofs.Columns.{column-within}
+use Rattle.table.specs.Write.{cell, cells}
 use Rattle.table.proofs.write.put_row.Statement.{statement}
 use Rattle.table.proofs.write.put_row.Tie as tie
 
