@@ -4,7 +4,7 @@ use mathlib.Core.Option.{Option, none, some}
 use Rattle.comparer.specs.declared.Verdict.{Verdict}
 use Rattle.comparer.specs.declared.Verdict.the-variants.{Same, Differs}
 
--- the answer of a comparison
+-- by the place of the first mismatch, if there is one
 abbrev pub verdict : Option ℕ → Verdict
 verdict none = Same
 verdict (some p) = Differs p

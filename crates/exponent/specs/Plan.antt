@@ -28,11 +28,6 @@ isInvalid Invalid = true
 abbrev pub invalidEntry : ℕ → ℤ → Bool
 invalidEntry lift entry = isInvalid (blockOf lift entry)
 
--- filled blocks as entries, by their shifts
-abbrev pub shifts : List ℕ → List ℤ
-shifts [] = []
-shifts (e ∷ l) = pos e ∷ shifts l
-
 -- the entry at a place of the list
 unfoldable pub entryAt : List ℤ → ℕ → ℕ → Block
 entryAt plan lift place = blockOf lift (getD plan place (pos 0))
@@ -46,3 +41,8 @@ abbrev pub filled : Block → Bool
 filled Zero = false
 filled (Shift e) = true
 filled Invalid = false
+
+-- entries of filled blocks, by their shifts: how the cases write a plan down
+abbrev pub shifts : List ℕ → List ℤ
+shifts [] = []
+shifts (e ∷ l) = pos e ∷ shifts l

@@ -91,6 +91,7 @@ abbrev pub comparedReply : Comparison → Reply
 comparedReply Agrees = Nothing
 comparedReply (NotAgreed r) = Refuses r
 
+-- an answer's reply, put into `out`
 abbrev pub gives : {A : Type 0} → (A → Reply) → A → List ℕ → Given
 gives f a out = given (f a) out
 

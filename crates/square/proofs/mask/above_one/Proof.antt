@@ -1,4 +1,4 @@
--- `table::mask::above_one` meets its contract. The loop's invariant: no byte passed is above 1.
+-- `square::mask::above_one` meets its contract. The loop's invariant: no byte passed is above 1.
 -- The measure is what is left of the list. Assumes nothing.
 use Prim.Native.Nat.{ℕ, _≤_, _<_, _-_}
 use mathlib.Core.Path.{_≡_, sym}

@@ -1,4 +1,4 @@
--- `table::mask::common` meets its contract: the ones of the first row are the only weight that can be common. Assumes nothing.
+-- `square::mask::common` meets its contract: the ones of the first row are the only weight that can be common. Assumes nothing.
 use Prim.Native.Nat.{ℕ}
 use mathlib.Core.Path.{sym, ap, _∙_}
 use native.Mathlib.Omega.{arith}

@@ -1,4 +1,4 @@
--- `table::mask::count_ones` meets its contract. The loop's invariant: the ones among the first k bytes are counted.
+-- `square::mask::count_ones` meets its contract. The loop's invariant: the ones among the first k bytes are counted.
 -- The measure is what is left of the order. Assumes nothing.
 use Prim.Native.Nat.{ℕ, _+_, _*_, _-_, _≤_}
 use mathlib.Core.Path.{_≡_, refl}

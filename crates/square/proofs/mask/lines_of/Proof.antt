@@ -1,4 +1,4 @@
--- `table::mask::lines_of` meets its contract. The loop's invariant: the lines of that weight among the first j are counted.
+-- `square::mask::lines_of` meets its contract. The loop's invariant: the lines of that weight among the first j are counted.
 -- The measure is what is left of the order. Assumes nothing.
 use Prim.Native.Nat.{ℕ, _*_, _-_, _≤_}
 use mathlib.Core.Path.{_≡_, refl, sym, _∙_}

@@ -1,4 +1,4 @@
--- `table::search::first_negative` meets its contract. The loop's invariant: no entry passed is negative.
+-- `square::search::first_negative` meets its contract. The loop's invariant: no entry passed is negative.
 -- The measure is what is left of the list. Assumes nothing.
 use Prim.Native.Nat.{ℕ, _≤_, _<_, _-_}
 use mathlib.Core.Path.{_≡_, sym, ap, _∙_}

@@ -1,4 +1,4 @@
--- `table::search::first_repeat` meets its contract. The loop's invariant: no i, k, r, t passed repeat.
+-- `square::search::first_repeat` meets its contract. The loop's invariant: no i, k, r, t passed repeat.
 -- The measure is what is left of their number. Assumes nothing.
 use Prim.Native.Nat.{ℕ, _*_, _≤_, _<_, _-_}
 use mathlib.Core.Path.{_≡_, sym, ap, _∙_}

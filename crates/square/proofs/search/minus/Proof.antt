@@ -1,4 +1,4 @@
--- `table::search::minus` meets its contract: reducing the first number does not change the difference. Assumes nothing.
+-- `square::search::minus` meets its contract: reducing the first number does not change the difference. Assumes nothing.
 use native.Mathlib.Nat.{mod-lt, mod-add-mod}
 use native.Mathlib.Omega.{arith}
 use borrow.Author.Needs.{needs}

@@ -1,4 +1,4 @@
--- `table::search::repeats` meets its contract: its tests are those of the definition, in their order. Assumes nothing.
+-- `square::search::repeats` meets its contract: its tests are those of the definition, in their order. Assumes nothing.
 use mathlib.Core.Path.{ap₂}
 use lib.Dec.{eqb}
 use borrow.Author.Tests.{lt-ltb, le-ltb}

@@ -1,4 +1,4 @@
--- `table::search::row_minus` meets its contract: the difference of the two numbers that it reads. Assumes nothing.
+-- `square::search::row_minus` meets its contract: the difference of the two numbers that it reads. Assumes nothing.
 use mathlib.Core.Path.{ap₂, _∙_}
 use borrow.Author.Needs.{needs}
 use Rattle.square.specs.Table.{minus}

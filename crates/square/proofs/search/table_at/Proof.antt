@@ -1,4 +1,4 @@
--- `table::search::table_at` meets its contract: the place of row i and column r lies within the list. Assumes nothing.
+-- `square::search::table_at` meets its contract: the place of row i and column r lies within the list. Assumes nothing.
 use mathlib.Core.Path.{ap, _∙_}
 use native.Mathlib.Omega.{arith}
 use borrow.Author.Needs.{needs}

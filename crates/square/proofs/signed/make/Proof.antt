@@ -1,4 +1,4 @@
--- `table::signed::make` meets its contract: a number below 4,096 is the same at `i16`. Assumes nothing.
+-- `square::signed::make` meets its contract: a number below 4,096 is the same at `i16`. Assumes nothing.
 use mathlib.Core.Path.{sym, ap, _∙_}
 use mathlib.Core.Bool.{Bool}
 use native.Mathlib.Omega.{arith}

@@ -1,4 +1,4 @@
--- `table::signed::read` meets its contract: the test of the sign says which case of `signed` holds. Assumes nothing.
+-- `square::signed::read` meets its contract: the test of the sign says which case of `signed` holds. Assumes nothing.
 use lib.IntN.{ℤ, pos}
 use lib.ListN.{getD}
 use mir.Syntax.{w16}

@@ -1,4 +1,4 @@
--- `table::supply::half` meets its contract: at 0 it is 0, and above it the code's difference is that of the definition.
+-- `square::supply::half` meets its contract: at 0 it is 0, and above it the code's difference is that of the definition.
 -- Assumes nothing.
 use Prim.Native.Nat.{_-_}
 use mathlib.Core.Path.{_≡_, sym, ap}

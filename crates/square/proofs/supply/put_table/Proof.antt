@@ -1,4 +1,4 @@
--- `table::supply::put_table` meets its contract. The loop's invariant: the first n entries are written.
+-- `square::supply::put_table` meets its contract. The loop's invariant: the first n entries are written.
 -- The measure is what is left of the list. Assumes nothing.
 use Prim.Native.Nat.{ℕ, _*_, _/_, _%_, _-_, _≤_}
 use mathlib.Core.Path.{_≡_, sym, ap, _∙_}

@@ -1,4 +1,4 @@
--- `table::supply::supplied_at` meets its contract: each arm is the case of `suppliedAt`. Assumes nothing.
+-- `square::supply::supplied_at` meets its contract: each arm is the case of `suppliedAt`. Assumes nothing.
 use Prim.Native.Nat.{ℕ, _+_, _-_, _<_}
 use mathlib.Core.Path.{sym, ap, _∙_}
 use native.Mathlib.Nat.{mod-lt}
