@@ -7,10 +7,10 @@ use native.Mathlib.Omega.{arith}
 use native.Mathlib.Nat.{mul-le-mul, suc-mul}
 use lib.IntN.{ℤ}
 use lib.ListN.{length, length-append, length-map}
-use Rattle.graph.specs.Count.{below}
+use Rattle.graph.specs.Count.{below, Mem}
 use Rattle.graph.specs.Graph.{Bipartite, bitsOf, checksOf}
 use Rattle.graph.proofs.Decide.{by-le}
-use Rattle.graph.proofs.Lists.{Mem, mem-either, each-image}
+use Rattle.graph.proofs.Lists.{mem-either, each-image}
 use Rattle.graph.proofs.Count.{mem-select, length-map-below, length-range}
 use Rattle.graph.proofs.Neighbours.{mem-below}
 use Rattle.exponent.specs.declared.Shape.{Shape}

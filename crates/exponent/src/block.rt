@@ -21,7 +21,7 @@ fn shift_block(e: usize, lift: usize) -> Block
     }
 }
 
-// The entry at a place of the list. No other function reads a signed number.
+// The entry at a place of the list. No other function reads an entry of a plan.
 pub fn entry_at(plan: &[i16], lift: usize, place: usize) -> Block
     requires { ⌜ place < length (now plan) ⌝ }
     ensures { λ r. ⌜ r ≡ entryAt (now (plan .entry)) lift place ⌝ }

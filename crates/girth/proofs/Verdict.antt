@@ -12,10 +12,10 @@ use lib.Seq.{take-at}
 use borrow.Author.Tests.{not-false}
 use Rattle.refusal.specs.Lowest.{lowest}
 use Rattle.refusal.proofs.Lowest.{none-holds}
+use Rattle.graph.specs.Count.{Mem}
 use Rattle.graph.specs.Graph.{Bipartite}
 use Rattle.graph.specs.Girth.{SimpleCycle, Passes}
 use Rattle.graph.proofs.Count.{member-mem}
-use Rattle.graph.proofs.Lists.{Mem}
 use Rattle.graph.proofs.Decide.{by-eq, by-le}
 use Rattle.exponent.specs.declared.Shape.{Shape}
 use Rattle.exponent.specs.Limits.{planRules}

@@ -7,9 +7,10 @@ use mathlib.Core.List.{List, [], _∷_, _++_, append-assoc}
 use native.Mathlib.Omega.{arith}
 use native.Mathlib.Decide.{decLe}
 use lib.ListN.{length, getD, length-append}
+use Rattle.graph.specs.Count.{Mem}
 use Rattle.graph.specs.Graph.{Bipartite, Joined}
 use Rattle.graph.specs.Girth.{SimpleCycle, Passes}
-use Rattle.graph.proofs.Lists.{Mem, Nodup, getD-nodup, nodup-turn, mem-append, place, last, last-mem, last-append}
+use Rattle.graph.proofs.Lists.{Nodup, getD-nodup, nodup-turn, mem-append, place, last, last-mem, last-append}
 use Rattle.graph.proofs.Walks.{Node, check, bit, check-inj, bit-inj, check-not-bit, Adj, Walk, Apart, Cycle, fork}
 use Rattle.graph.proofs.Cycles.{passes-none, Ring, front}
 

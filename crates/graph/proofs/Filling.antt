@@ -10,13 +10,12 @@ use borrow.Author.Tests.{eqb-true, eqb-false, eq-eqb, ne-eqb}
 use lib.Dec.{eqb}
 use lib.ListN.{length, getD, set, length-set, List·getD-eq-default}
 use lib.Seq.{getD-set-same, getD-set-other, ext-getD}
-use Rattle.graph.specs.Count.{below, one, count}
+use Rattle.graph.specs.Count.{below, one, count, Mem}
 use Rattle.graph.specs.Graph.{Bipartite, bitsOf}
 use Rattle.graph.specs.Stopping.{Stopping}
 use Rattle.graph.specs.Erasure.{erased, total, parity, Damaged, any, only, peel, peels, largest, Solution}
-use Rattle.graph.specs.Filling.{forced, fillRound, fillRounds, filledWord, oddCheck, clash, erasures, filledCount, leftCount}
+use Rattle.graph.specs.Filling.{Derived, forced, fillRound, fillRounds, filledWord, oddCheck, clash, erasures, filledCount, leftCount}
 use Rattle.graph.proofs.Decide.{both-ways, by-bool, by-eq, by-le, and-left, and-right, and-both, same-bool}
-use Rattle.graph.proofs.Lists.{Mem}
 use Rattle.graph.proofs.Count.{count-mono, count-mem, count-none, getD-map-below, length-map-below}
 use Rattle.graph.proofs.Peeling.{any-true, any-false, only-mem, only-once, erased-low, peel-within, peel-keeps, largest-stopping, largest-contains, filled-and-left}
 
@@ -126,13 +125,6 @@ module _ (G : Bipartite) (w : List ℕ) (c : ℕ) where
   not-odd-check n = by-bool (oddCheck G w c) (λ e. let r = odd-parts e in absurd (n (r .0) (r .1))) (λ e. e)
 
 -- Words on the way
-
--- p is w with some erasures filled, none of them in U, each with the parity that every solution has there
-pub record Derived (G : Bipartite) (w p : List ℕ) : Type 0 where
-  pub same-length : length p ≡ length w
-  pub within : (b : ℕ) → erased p b ≡ true → erased w b ≡ true
-  pub keeps : (b : ℕ) → largest G w b ≡ true → erased p b ≡ true
-  pub agrees : (v : List ℕ) → Solution G w v → (b : ℕ) → erased p b ≡ false → getD v b 0 % 2 ≡ getD p b 0 % 2
 
 -- p has the known bytes of w, and 0, 1 or 2 at its erasures
 pub record Completes (w p : List ℕ) : Type 0 where

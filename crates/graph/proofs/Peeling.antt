@@ -1,4 +1,4 @@
--- Laws of peeling sets of bits: U is a stopping set among the erasures and contains every other one.
+-- Laws of peeling sets of bits: the union of stopping sets is one; U is a stopping set among the erasures and contains every other one.
 -- Assumes nothing.
 use Prim.Native.Nat.{ℕ, zero, suc, _+_, _≤_, _<_}
 use mathlib.Core.Path.{_≡_, refl, sym, ap, ap₂, subst, _∙_, fun-ext}
@@ -10,13 +10,12 @@ use native.Mathlib.Numerals.{add-one}
 use borrow.Author.Tests.{eqb-true, eq-eqb}
 use lib.Dec.{eqb}
 use lib.ListN.{length, getD, List·getD-eq-default}
-use Rattle.graph.specs.Count.{below, count, member}
+use Rattle.graph.specs.Count.{below, count, member, Mem}
 use Rattle.graph.specs.Graph.{Bipartite, bitsOf}
 use Rattle.graph.specs.Stopping.{Stopping}
-use Rattle.graph.specs.Erasure.{erased, StoppingIn, any, only, peel, peels, largest}
+use Rattle.graph.specs.Erasure.{erased, StoppingIn, Union, any, only, peel, peels, largest}
 use Rattle.graph.specs.Filling.{erasures, filledCount, leftCount}
 use Rattle.graph.proofs.Decide.{both-ways, by-bool, by-eq, by-le, and-left, and-right, and-both, same-bool}
-use Rattle.graph.proofs.Lists.{Mem}
 use Rattle.graph.proofs.Count.{member-mem, mem-member, length-range, count-mono, count-le, count-mem, count-some, count-full, count-split, count-positions}
 use Rattle.graph.proofs.Neighbours.{below-mem}
 
@@ -58,6 +57,27 @@ erased-low w b e = by-le (length w) b (λ h. absurd (omega (arith, eqb-true (get
 pub erasures-count : (w : List ℕ) → erasures w ≡ count (erased w) (below (length w))
 unfolding erasures
 erasures-count w = count-positions (λ x. eqb x 2) w
+
+-- The union of stopping sets is one: a check that touched it once would touch the set of that bit once
+
+union-stops : (G : Bipartite) (Collected : (ℕ → Bool) → Type 0) (U : ℕ → Bool) → ((S : ℕ → Bool) → Collected S → Stopping G S) → Union Collected U → Stopping G U
+unfolding Stopping
+union-stops G Collected U each union c low h =
+    let (b, b-in, b-U) = count-some U (bitsOf G c) (omega arith) in
+    let (S, collected, b-S) = union .nothing-else b b-U in
+    each S collected c low (omega (
+      arith,
+      count-mem S b (bitsOf G c) b-in b-S,
+      count-mono S U (bitsOf G c) (λ x _. union .contains S collected x),
+    ))
+
+pub union-stopping : (G : Bipartite) (w : List ℕ) (Collected : (ℕ → Bool) → Type 0) (U : ℕ → Bool)
+    → ((S : ℕ → Bool) → Collected S → StoppingIn G w S) → Union Collected U → StoppingIn G w U
+union-stopping G w Collected U each union =
+    record {
+      within = λ b e. let (S, collected, b-S) = union .nothing-else b e in each S collected .within b b-S;
+      stops = union-stops G Collected U (λ S collected. each S collected .stops) union;
+    }
 
 -- One round
 

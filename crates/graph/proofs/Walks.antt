@@ -7,8 +7,9 @@ use mathlib.Core.List.{List, [], _∷_, _++_, reverseAux, append-assoc}
 use native.Mathlib.Omega.{arith}
 use native.Mathlib.Decide.{ℕ-discrete}
 use lib.ListN.{length, length-append, length-reverseAux}
+use Rattle.graph.specs.Count.{Mem}
 use Rattle.graph.specs.Graph.{Bipartite, Joined}
-use Rattle.graph.proofs.Lists.{Mem, Nodup, last, nodup-left, last-mem, Place, place, decMem, decNodup}
+use Rattle.graph.proofs.Lists.{Nodup, last, nodup-left, last-mem, Place, place, decMem, decNodup}
 
 -- a check is never a bit, even where their numbers are equal
 pub data Node : Type 0 where

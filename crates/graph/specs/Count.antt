@@ -1,5 +1,7 @@
 -- Lists of numbers: those below a bound, those that pass a test, and how many pass. A set of bits or checks is a test ℕ → Bool.
 use Prim.Native.Nat.{ℕ, zero, suc, _+_}
+use mathlib.Core.Path.{_≡_}
+use mathlib.Core.Logic.{_⊎_}
 use mathlib.Core.Bool.{Bool, true, false, cond, _||_}
 use mathlib.Core.List.{List, [], _∷_}
 use mathlib.Core.Option.{Option, none, some}
@@ -32,6 +34,11 @@ count test (x ∷ l) = one (test x) + count test l
 unfoldable pub member : ℕ → List ℕ → Bool
 member x [] = false
 member x (y ∷ l) = eqb x y || member x l
+
+-- the same in words, of a list of any kind
+abbrev pub Mem : {A : Type 0} → A → List A → Type 0
+Mem x [] = ⊥
+Mem x (y ∷ l) = (x ≡ y) ⊎ Mem x l
 
 -- whether there is a number
 abbrev pub isSome : Option ℕ → Bool

@@ -40,6 +40,11 @@ pub record StoppingIn (G : Bipartite) (w : List ℕ) (S : ℕ → Bool) : Type 0
   pub within : (b : ℕ) → S b ≡ true → erased w b ≡ true
   pub stops : Stopping G S
 
+-- U has exactly the bits of the sets of a collection: it is their union
+pub record Union (Collected : (ℕ → Bool) → Type 0) (U : ℕ → Bool) : Type 0 where
+  pub contains : (S : ℕ → Bool) → Collected S → (b : ℕ) → S b ≡ true → U b ≡ true
+  pub nothing-else : (b : ℕ) → U b ≡ true → (S : ℕ → Bool) × Collected S × (S b ≡ true)
+
 -- some number below n passes the test
 unfoldable pub any : ℕ → (ℕ → Bool) → Bool
 any zero test = false

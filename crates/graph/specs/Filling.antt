@@ -1,13 +1,21 @@
--- The filled word, computed: in each round every erasure that is the only one of some check takes that check's parity.
--- proofs/Filling.antt shows that this is the one `Solution`, where there is one.
-use Prim.Native.Nat.{ℕ, zero, suc}
-use mathlib.Core.Bool.{Bool, not, cond, _&&_}
+-- The filled word: what holds of a word on the way to it, and the word itself, computed: in each round every erasure that is the only
+-- one of some check takes that check's parity. proofs/Filling.antt shows that this is the one `Solution`, where there is one.
+use Prim.Native.Nat.{ℕ, zero, suc, _%_}
+use mathlib.Core.Path.{_≡_}
+use mathlib.Core.Bool.{Bool, true, false, not, cond, _&&_}
 use mathlib.Core.List.{List, map}
 use lib.Dec.{eqb}
 use lib.ListN.{length, getD}
 use Rattle.graph.specs.Count.{below, count}
 use Rattle.graph.specs.Graph.{Bipartite, bitsOf}
-use Rattle.graph.specs.Erasure.{erased, parity, any, only, largest}
+use Rattle.graph.specs.Erasure.{erased, parity, any, only, largest, Solution}
+
+-- p is w with some erasures filled, none of them in U, each with the parity that every solution has there
+pub record Derived (G : Bipartite) (w p : List ℕ) : Type 0 where
+  pub same-length : length p ≡ length w
+  pub within : (b : ℕ) → erased p b ≡ true → erased w b ≡ true
+  pub keeps : (b : ℕ) → largest G w b ≡ true → erased p b ≡ true
+  pub agrees : (v : List ℕ) → Solution G w v → (b : ℕ) → erased p b ≡ false → getD v b 0 % 2 ≡ getD p b 0 % 2
 
 -- the parity of a check below n of which bit b is the only erasure, or 2 where there is none (an erasure counts as even)
 unfoldable pub forced : Bipartite → List ℕ → ℕ → ℕ → ℕ

@@ -12,9 +12,9 @@ use lib.ListN.{length, getD, length-map}
 use borrow.Author.Tests.{eqb-true, lt-ltb, le-ltb, ltb-true, not-true}
 use Rattle.refusal.specs.Place.{firstPlace, somewhere}
 use Rattle.refusal.proofs.Place.{at-first}
-use Rattle.graph.specs.Count.{range, below, select, one, member, isSome}
+use Rattle.graph.specs.Count.{range, below, select, one, member, isSome, Mem}
 use Rattle.graph.proofs.Decide.{by-bool, by-eq, by-le, both-ways, and-left, and-right, same-bool}
-use Rattle.graph.proofs.Lists.{Mem, mem-left, mem-append, getD-mem}
+use Rattle.graph.proofs.Lists.{mem-left, mem-append, getD-mem}
 use Rattle.graph.proofs.Count.{mem-range, range-mem, range-append, select-append, member-mem, mem-member}
 use Rattle.exponent.proofs.Numbers.{block-of, place-of, number-low}
 use Rattle.square.specs.Each.{each, upon, grid}

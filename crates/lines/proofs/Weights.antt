@@ -7,9 +7,9 @@ use native.Mathlib.Omega.{arith}
 use native.Mathlib.Nat.{sub-zero}
 use lib.IntN.{ℤ}
 use lib.ListN.{length, length-map}
-use Rattle.graph.specs.Count.{range, below}
+use Rattle.graph.specs.Count.{range, below, Mem}
 use Rattle.graph.specs.Graph.{Bipartite}
-use Rattle.graph.proofs.Lists.{Mem, mem-image, each-image}
+use Rattle.graph.proofs.Lists.{mem-image, each-image}
 use Rattle.graph.proofs.Neighbours.{mem-below, below-mem}
 use Rattle.exponent.specs.declared.Shape.{Shape}
 use Rattle.exponent.specs.Limits.{WellFormed}

@@ -15,11 +15,11 @@ use Rattle.graph.specs.Count.{below, count}
 use Rattle.graph.specs.Graph.{Bipartite, bitsOf}
 use Rattle.graph.specs.Stopping.{Stopping}
 use Rattle.graph.specs.Erasure.{erased, parity, any, largest}
-use Rattle.graph.specs.Filling.{filledWord, oddCheck, clash, erasures, filledCount, leftCount}
+use Rattle.graph.specs.Filling.{Derived, filledWord, oddCheck, clash, erasures, filledCount, leftCount}
 use Rattle.graph.proofs.Decide.{by-le}
 use Rattle.graph.proofs.Count.{count-none}
 use Rattle.graph.proofs.Peeling.{erasures-count, filled-and-left}
-use Rattle.graph.proofs.Filling.{Derived, Completes, total-none, derived-start, left-largest, ends-filled, ends-clash}
+use Rattle.graph.proofs.Filling.{Completes, total-none, derived-start, left-largest, ends-filled, ends-clash}
 use Rattle.worklist.specs.Work.{unmarked, Working, Peeled}
 use Rattle.worklist.proofs.Unmarking.{unmarked-low, unmarked-high}
 use Rattle.peeling.specs.declared.Filling.the-variants.{Filled, Refused}

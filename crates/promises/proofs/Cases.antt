@@ -43,6 +43,7 @@ use Rattle.lines.specs.Alist.{degrees, greatest, fill, lists, linesOf}
 use Rattle.lines.specs.Text.{item, lineFrom, textOf}
 use Rattle.alist.specs.Calls.{alistText}
 use Rattle.alist.proofs.FirstLine.{sizesLine, text-begins}
+use Rattle.planning.proofs.Outputs.{four-six}
 use Rattle.promises.specs.Two.{Passing}
 use Rattle.promises.specs.Cases.{Failing, FailingWith, pair, full, column, cyclicAnswer, cyclicPlan, bytes, BenchCases}
 use Rattle.promises.proofs.Two.{verdict, passing-12}
@@ -146,6 +147,7 @@ bench-cases =
       lift-4096-taken = passing _ 1 3 4096 12 _ c₆ refl;
       lift-4097-refused = λ plan cols h k r a. (Lift, turned-away plan 1 cols 4097 12 Lift (lift-4097 plan cols h k) a, refl, refl);
       cyclic-6-refused = (Unsound 0 2 1 3, cyclic-6, refl, refl);
+      input-4-6 = four-six;
       cyclic-7-built = cyclic-7 .0;
       cyclic-7-bits = cyclic-7 .1;
       cyclic-7-text = cyclic-text;

@@ -5,6 +5,6 @@ use Rattle.promises.specs.Table.{Thirteen}
 use Rattle.promises.proofs.Three.{recovered}
 
 pub thirteen : Thirteen
-thirteen order lift table mask room accepted f f′ even loses =
+thirteen order lift table mask room accepted f f′ code loses =
     let good = built-is-good order lift table mask room accepted in
-    recovered _ _ _ lift 12 13 at-12 (good .passes) (good .three-blocks) f f′ even loses
+    recovered _ _ _ lift 12 13 at-12 (good .is-well-formed) (good .passes) (good .three-blocks) f f′ code loses

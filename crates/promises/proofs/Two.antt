@@ -15,7 +15,7 @@ use Rattle.graph.specs.Girth.{Passes}
 use Rattle.graph.specs.Erasure.{Solution}
 use Rattle.graph.specs.Filling.{filledWord, clash, filledCount, leftCount}
 use Rattle.graph.proofs.Decide.{by-bool}
-use Rattle.graph.proofs.Peeling.{largest-stopping, largest-contains, filled-and-left}
+use Rattle.graph.proofs.Peeling.{union-stopping, largest-stopping, largest-contains, filled-and-left}
 use Rattle.graph.proofs.Filling.{filledWord-solves, unique, recovers}
 use Rattle.exponent.specs.Limits.{planRules}
 use Rattle.exponent.specs.Tanner.{tanner}
@@ -137,4 +137,4 @@ module _ (plan : List ℤ) (rows cols lift : ℕ) (word : List ℕ) (filled left
           (filled-word q)
 
 pub promise-2 : Promise-2
-promise-2 = record { girth-test = verdicts; table-plans = built-plans; filler = recovery }
+promise-2 = record { girth-test = verdicts; table-plans = built-plans; stuck-sets = union-stopping; filler = recovery }

@@ -30,6 +30,7 @@ use Rattle.table.specs.declared.Built.{Built as BuiltAnswer}
 use Rattle.table.specs.declared.Built.the-variants.{Built, Refused as NotBuilt}
 use Rattle.table.specs.Build.{buildRules, builtPlan, built}
 use Rattle.alist.specs.Calls.{alistText}
+use Rattle.planning.specs.Output.{output}
 use Rattle.promises.specs.Two.{Passing}
 
 -- every answer of the girth test is that the plan fails; that it fails and the shown cycle has so many edges
@@ -81,8 +82,10 @@ pub record BenchCases : Type 0 where
   pub one-row-passes-12 : (plan : List ℤ) (cols lift : ℕ) → lowest (planRules plan 1 cols lift) ≡ none → Passing plan 1 cols lift 12
   pub lift-4096-taken : Passing (shifts (0 ∷ 0 ∷ 0 ∷ [])) 1 3 4096 12
   pub lift-4097-refused : (plan : List ℤ) (cols : ℕ) → 1 ≤ cols → cols ≤ 512 → (r : GirthTest) → Answer plan 1 cols 4097 12 r → RefusedWith 3 [] NotTested (r .outcome)
-  -- cyclic J = 4, P = 6: refusal 10 with 0, 2, 1, 3; P = 7: built, 448 bits, text begins "448 336"
+  -- cyclic J = 4, P = 6: refusal 10 with 0, 2, 1, 3; input "4 6" prints "refused 10", whatever room and text place are lent
   pub cyclic-6-refused : RefusedWith 10 (0 ∷ 2 ∷ 1 ∷ 3 ∷ []) NotBuilt (cyclicAnswer 6)
+  pub input-4-6 : (room : ℕ) (place : List ℕ) → output (bytes "4 6") room place ≡ bytes "refused 10\n"
+  -- P = 7: built, 448 bits, text begins "448 336"
   pub cyclic-7-built : cyclicAnswer 7 ≡ Built 48 64
   pub cyclic-7-bits : tanner (cyclicPlan 7) 48 64 7 .bits ≡ 448
   pub cyclic-7-text : take 8 (alistText (cyclicPlan 7) 48 64 7) ≡ bytes "448 336\n"

@@ -5,8 +5,8 @@ use mathlib.Core.List.{List}
 use mathlib.Core.Option.{none}
 use lib.IntN.{ℤ}
 use Rattle.refusal.specs.Lowest.{lowest}
-use Rattle.syndrome.specs.declared.Syndrome.the-variants.{Even}
-use Rattle.syndrome.specs.Check.{syndromeOf}
+use Rattle.graph.specs.Erasure.{Codeword}
+use Rattle.exponent.specs.Tanner.{tanner}
 use Rattle.square.specs.Mask.{weight}
 use Rattle.grid.specs.Plan.{planRows, planCols}
 use Rattle.table.specs.Build.{buildRules, builtPlan}
@@ -19,4 +19,4 @@ Thirteen =
     → (let plan = builtPlan order lift table mask in
     let rows = planRows order (weight order mask) in
     let cols = planCols order (weight order mask) in
-    (f f′ : List ℕ) → syndromeOf plan rows cols lift f ≡ Even → Loses f f′ 13 → Recovered plan rows cols lift f f′)
+    (f f′ : List ℕ) → Codeword (tanner plan rows cols lift) f → Loses f f′ 13 → Recovered plan rows cols lift f f′)

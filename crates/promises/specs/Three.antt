@@ -6,9 +6,12 @@ use mathlib.Core.Bool.{false}
 use mathlib.Core.List.{List}
 use lib.IntN.{ℤ}
 use lib.ListN.{length, getD}
-use Rattle.graph.specs.Erasure.{erased}
+use Rattle.refusal.specs.Lowest.{lowest}
+use Rattle.graph.specs.Erasure.{erased, Codeword}
 use Rattle.graph.specs.Filling.{erasures}
-use Rattle.exponent.specs.Tanner.{ThreeBlocks}
+use Rattle.exponent.specs.declared.Validity.the-variants.{Valid}
+use Rattle.exponent.specs.Limits.{planRules, validity}
+use Rattle.exponent.specs.Tanner.{tanner, ThreeBlocks}
 use Rattle.girth.specs.declared.GirthTest.{GirthTest}
 use Rattle.girth.specs.declared.Outcome.the-variants.{Passed}
 use Rattle.girth.specs.Test.{Answer}
@@ -37,13 +40,20 @@ pub record Recovered (plan : List ℤ) (rows cols lift : ℕ) (f f′ : List ℕ
 
 -- For every plan that the girth test passes at the target and that has three filled blocks in each column, and all code frames f and g,
 -- of which f′ and g′ are what is left after up to the bound many losses: both come back, and the results are equal exactly where f and g are.
+-- A code frame is the document's own (`Codeword`), whatever the frame check says of it;
 abbrev pub Promise-3 : Type 0
 Promise-3 =
     (plan : List ℤ) (rows cols lift target bound : ℕ) → Bound target bound
     → (r : GirthTest) → Answer plan rows cols lift target r → r .outcome ≡ Passed
     → ThreeBlocks plan rows cols lift
     → (f g f′ g′ : List ℕ)
-    → syndromeOf plan rows cols lift f ≡ Even → syndromeOf plan rows cols lift g ≡ Even
+    → Codeword (tanner plan rows cols lift) f → Codeword (tanner plan rows cols lift) g
     → Loses f f′ bound → Loses g g′ bound
     → Recovered plan rows cols lift f f′ × Recovered plan rows cols lift g g′
     × ((fillWord plan rows cols lift f′ ≡ fillWord plan rows cols lift g′) ↔ (f ≡ g))
+
+-- and the frame check calls even exactly the code frames of valid plans.
+abbrev pub CodeFrames : Type 0
+CodeFrames =
+    (plan : List ℤ) (rows cols lift : ℕ) (f : List ℕ)
+    → (syndromeOf plan rows cols lift f ≡ Even) ↔ ((validity (lowest (planRules plan rows cols lift)) ≡ Valid) × Codeword (tanner plan rows cols lift) f)

@@ -11,7 +11,7 @@ use Rattle.refusal.specs.Lowest.{lowest}
 use Rattle.graph.specs.Count.{below, count}
 use Rattle.graph.specs.Graph.{Bipartite}
 use Rattle.graph.specs.Girth.{SimpleCycle, Passes}
-use Rattle.graph.specs.Erasure.{erased, Damaged, StoppingIn, largest, Solution}
+use Rattle.graph.specs.Erasure.{erased, Damaged, StoppingIn, Union, largest, Solution}
 use Rattle.graph.specs.Filling.{erasures}
 use Rattle.exponent.specs.Tanner.{tanner}
 use Rattle.girth.specs.declared.GirthTest.{GirthTest}
@@ -73,6 +73,12 @@ BuiltPlans =
 
 -- THE FILLER recovers each lost bit outside the largest set of lost bits that no check touches just once, and no other.
 
+-- the union of such sets, however many are collected, is one
+abbrev pub Unions : Type 1
+Unions =
+    (G : Bipartite) (word : List ℕ) (Collected : (ℕ → Bool) → Type 0) (U : ℕ → Bool)
+    → ((S : ℕ → Bool) → Collected S → StoppingIn G word S) → Union Collected U → StoppingIn G word U
+
 -- U is such a set and contains every other one
 pub record LargestStopping (G : Bipartite) (word : List ℕ) (U : ℕ → Bool) : Type 0 where
   pub stopping : StoppingIn G word U
@@ -104,7 +110,8 @@ Recoveries =
     → Recovers (tanner plan rows cols lift) word (fillWord plan rows cols lift word) filled left
 
 -- the whole promise
-pub record Promise-2 : Type 0 where
+pub record Promise-2 : Type 1 where
   pub girth-test : Verdicts
   pub table-plans : BuiltPlans
+  pub stuck-sets : Unions
   pub filler : Recoveries

@@ -10,7 +10,7 @@ pub enum Signed {
     Negative,
 }
 
-// The entry at a place. No other function of the crate reads a signed number.
+// The entry at a place. No other function reads an entry of a table.
 pub fn read(table: &[i16], place: usize) -> Signed
     requires { ⌜ place < length (now table) ⌝ }
     ensures { λ r. ⌜ r ≡ signed (getD (now (table .entry)) place (pos 0)) ⌝ }
@@ -40,7 +40,7 @@ pub fn natural(s: Signed) -> usize
     }
 }
 
-// A filled block's entry, or −1. No other function of the crate makes a signed number.
+// A filled block's entry, or −1. No other function makes a signed number.
 pub fn make(filled: bool, e: usize) -> i16
     requires { ⌜ e < 4096 ⌝ }
     ensures { λ r. ⌜ r ≡ block filled e ⌝ }

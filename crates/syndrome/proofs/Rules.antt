@@ -137,12 +137,18 @@ module _ (plan : List ℤ) (rows cols lift : ℕ) (word : List ℕ) where
         ∙ ap (λ (t : Bool). cond t (Odd low) Even) (le-ltb low (rows * lift) (omega (arith, odd-none (tanner plan rows cols lift) word (h .1)))),
   )
 
-  pub even-codeword : syndromeOf plan rows cols lift word ≡ Even → Codeword (tanner plan rows cols lift) word
+  -- so exactly of a valid plan and one of its codewords
+  pub even-exactly : (syndromeOf plan rows cols lift word ≡ Even) ↔ (WellFormed plan rows cols lift × Codeword (tanner plan rows cols lift) word)
   unfolding tanner
-  even-codeword e =
-      let (p, q) = syndrome-even .0 e in
-      let w = check-accepted plan rows cols lift word .0 p in
-      record { same-length = w .1; known = λ b h. w .2 b (omega (arith, w .1)); even = q }
+  even-exactly = (
+    λ e.
+        let (p, q) = syndrome-even .0 e in
+        let w = check-accepted plan rows cols lift word .0 p in
+        (w .0, record { same-length = w .1; known = λ b h. w .2 b (omega (arith, w .1)); even = q }),
+    λ h.
+        let code = h .1 in
+        syndrome-even .1 (check-accepted plan rows cols lift word .1 (h .0, code .same-length, λ b k. code .known b (omega (arith, code .same-length))), code .even),
+  )
 
   -- ODD: the check is odd, and none before it is
   pub odd-lowest : (c : ℕ) → syndromeOf plan rows cols lift word ≡ Odd c

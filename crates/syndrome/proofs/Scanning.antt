@@ -10,10 +10,10 @@ use native.Mathlib.Omega.{arith}
 use borrow.Author.Tests.{eq-eqb, ne-eqb}
 use lib.IntN.{ℤ}
 use lib.ListN.{getD}
-use Rattle.graph.specs.Count.{below, one, count}
+use Rattle.graph.specs.Count.{below, one, count, Mem}
 use Rattle.graph.specs.Graph.{bitsOf}
 use Rattle.graph.specs.Erasure.{erased, total}
-use Rattle.graph.proofs.Lists.{Mem, mem-left}
+use Rattle.graph.proofs.Lists.{mem-left}
 use Rattle.graph.proofs.Count.{count-append}
 use Rattle.exponent.specs.declared.block.Block.{Block}
 use Rattle.exponent.specs.declared.block.Block.the-variants.{Zero, Shift, Invalid}

@@ -5,9 +5,8 @@ use mathlib.Core.Bool.{true}
 use mathlib.Core.List.{List, [], _∷_, _++_}
 use lib.IntN.{ℤ}
 use lib.ListN.{length, getD}
-use Rattle.graph.specs.Count.{count}
+use Rattle.graph.specs.Count.{count, Mem}
 use Rattle.graph.specs.Erasure.{erased, total}
-use Rattle.graph.proofs.Lists.{Mem}
 use Rattle.exponent.specs.declared.block.Block.{Block}
 use Rattle.exponent.specs.declared.block.Block.the-variants.{Shift}
 use Rattle.exponent.specs.declared.Shape.{Shape}

@@ -9,8 +9,9 @@ use native.Mathlib.Omega.{arith}
 use native.Mathlib.Nat.{div-add-mod'}
 use lib.IntN.{ℤ}
 use lib.ListN.{length}
+use Rattle.graph.specs.Count.{Mem}
 use Rattle.graph.specs.Graph.{Bipartite, Joined}
-use Rattle.graph.proofs.Lists.{Mem, last}
+use Rattle.graph.proofs.Lists.{last}
 use Rattle.graph.proofs.Walks.{Node, check, bit, check-inj, bit-inj, check-not-bit, Adj, Walk}
 use Rattle.graph.proofs.Closed.{ClosedAt}
 use Rattle.exponent.specs.declared.position.Position.{Position}

@@ -8,9 +8,10 @@ use native.Mathlib.Omega.{arith}
 use native.Mathlib.Nat.{mul-mod-left}
 use lib.IntN.{ℤ}
 use lib.ListN.{length, length-map}
+use Rattle.graph.specs.Count.{Mem}
 use Rattle.graph.specs.Graph.{Bipartite}
 use Rattle.graph.specs.Girth.{SimpleCycle}
-use Rattle.graph.proofs.Lists.{Mem, least-of, mem-image, each-image, decNodup}
+use Rattle.graph.proofs.Lists.{least-of, mem-image, each-image, decNodup}
 use Rattle.graph.proofs.Walks.{Node, check, bit, same?, Adj, core-cycle}
 use Rattle.graph.proofs.Cycles.{Short, numbers, checks-of, bits-of, walk-cycle, short-cycle}
 use Rattle.graph.proofs.Closed.{cycle-at}

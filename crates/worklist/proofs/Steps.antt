@@ -11,12 +11,11 @@ use lib.Dec.{eqb}
 use lib.IntN.{ℤ}
 use lib.ListN.{length, getD, set, length-set}
 use lib.Seq.{getD-set-same, getD-set-other}
-use Rattle.graph.specs.Count.{below, count}
+use Rattle.graph.specs.Count.{below, count, Mem}
 use Rattle.graph.specs.Graph.{Bipartite, bitsOf}
 use Rattle.graph.specs.Erasure.{erased, total, parity}
 use Rattle.graph.specs.Filling.{erasures}
 use Rattle.graph.proofs.Decide.{by-eq, by-le}
-use Rattle.graph.proofs.Lists.{Mem}
 use Rattle.graph.proofs.Count.{nodup-range, count-le, count-less}
 use Rattle.graph.proofs.Neighbours.{below-mem}
 use Rattle.graph.proofs.Peeling.{erased-low, erasures-count}

@@ -9,8 +9,7 @@ use lib.ListN.{length, getD}
 use Rattle.graph.specs.Count.{count}
 use Rattle.graph.specs.Graph.{Bipartite, bitsOf}
 use Rattle.graph.specs.Erasure.{erased}
-use Rattle.graph.specs.Filling.{erasures}
-use Rattle.graph.proofs.Filling.{Derived}
+use Rattle.graph.specs.Filling.{Derived, erasures}
 use Rattle.worklist.specs.declared.Fill.{Fill}
 use Rattle.worklist.specs.declared.Fill.the-variants.{Nothing, Bit}
 
