@@ -2,6 +2,7 @@
 // and writes a line for each answer, to be compared with the stored output.
 mod say; // say.rt: what is written
 mod source000; // source000.rt: the degree matrices of source 000
+mod source001; // source001.rt: the labelings of source 001
 mod source002; // source002.rt: the example of source 002
 mod tables; // tables.rt: table plans, and source 004's examples
 mod text; // text.rt: alist text
@@ -12,6 +13,8 @@ fn main() {
     tables::diagonal();
     text::one_row();
     source002::example_one();
+    source001::table_two();
+    source001::girth_fourteen();
     source000::table_two();
     source000::table_three();
     source000::table_four();
