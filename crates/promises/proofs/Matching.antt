@@ -1,5 +1,6 @@
--- From tests to words: where each rule of a list is true exactly when its row of "Turned away" applies, the lowest of the list is the
--- lowest that applies. A test may differ from its row where a row with a lower number applies. Assumes nothing.
+-- From tests to words: where each rule of a list is true exactly when its row of "Turned away" applies, with the number and the values of
+-- its refusal, the lowest of the list is the lowest that applies. A test may differ from its row where a row with a lower number applies.
+-- Assumes nothing.
 use Prim.Native.Nat.{ℕ, _≤_, _<_}
 use mathlib.Core.Path.{_≡_, refl, sym, ap, _∙_}
 use mathlib.Core.Logic.{_⊎_, inl, inr}
@@ -8,59 +9,101 @@ use mathlib.Core.List.{List, [], _∷_, _++_}
 use mathlib.Core.Option.{some}
 use native.Mathlib.Omega.{arith}
 use Rattle.refusal.specs.declared.Refusal.{Refusal}
-use Rattle.refusal.specs.Number.{number}
+use Rattle.refusal.specs.Number.{number, values}
 use Rattle.refusal.specs.Lowest.{Rule, refuse, lowest, rising, In, here, later, LowestThat}
 use Rattle.refusal.proofs.Lowest.{lowest-exactly, lowest-none, in-cons, in-first, in-second, in-either}
-use Rattle.promises.specs.TurnedAway.{_or_, Lowest, LowestOf}
+use Rattle.promises.specs.TurnedAway.{_or_, Lowest, RefusedWith, LowestOf}
 
--- something with a lower number applies
-pub record Lower (Applies : Refusal → Type 0) (s : Refusal) : Type 0 where
-  pub other : Refusal
-  pub applies : Applies other
-  pub lower : number other < number s
+-- something with a number below n applies
+pub record Lower (Applies : ℕ → List ℕ → Type 0) (n : ℕ) : Type 0 where
+  pub other : ℕ
+  pub its-values : List ℕ
+  pub applies : Applies other its-values
+  pub lower : other < n
 
-pub record Matches (rules : List Rule) (Applies : Refusal → Type 0) : Type 0 where
-  pub listed : (s : Refusal) → In (refuse s true) rules → Applies s ⊎ Lower Applies s
-  pub applies : (s : Refusal) → Applies s → In (refuse s true) rules
+-- a refusal with the number n and the values l is listed, with its test true
+pub record Listed (rules : List Rule) (n : ℕ) (l : List ℕ) : Type 0 where
+  pub refusal : Refusal
+  pub stands : In (refuse refusal true) rules
+  pub number-is : number refusal ≡ n
+  pub values-are : values refusal ≡ l
+
+-- the row of s applies; or one with a lower number does
+abbrev pub RowOf : (ℕ → List ℕ → Type 0) → Refusal → Type 0
+RowOf Applies s = Applies (number s) (values s)
+
+abbrev pub RowOrLower : (ℕ → List ℕ → Type 0) → Refusal → Type 0
+RowOrLower Applies s = RowOf Applies s ⊎ Lower Applies (number s)
+
+pub record Matches (rules : List Rule) (Applies : ℕ → List ℕ → Type 0) : Type 0 where
+  pub listed : (s : Refusal) → In (refuse s true) rules → RowOrLower Applies s
+  pub applies : (n : ℕ) (l : List ℕ) → Applies n l → Listed rules n l
 
 -- THE LAW, used for every call
-module _ (rules : List Rule) (rise : rising rules ≡ true) (Applies : Refusal → Type 0) (m : Matches rules Applies) where
-  to-words : (r : Refusal) → lowest rules ≡ some r → Lowest Applies r
+module _ (rules : List Rule) (rise : rising rules ≡ true) (Applies : ℕ → List ℕ → Type 0) (m : Matches rules Applies) where
+  to-words : (r : Refusal) → lowest rules ≡ some r → Lowest Applies (number r) (values r)
   to-words r e =
       let w = lowest-exactly rules rise r .0 e in
       record {
         applies = found w (m .listed r (w .applies));
-        none-lower = λ s a. w .none-lower s (m .applies s a);
-        no-other = λ s a q.
-            let v : LowestThat rules s = record { applies = m .applies s a; none-lower = λ t i. omega (arith, q, w .none-lower t i) } in
-            let f = sym (lowest-exactly rules rise s .1 v) ∙ e in
-            cc;
+        none-lower = λ n l a. least w n l (m .applies n l a);
+        no-other = λ l a. same w l (m .applies (number r) l a);
       }
     where
-      found : LowestThat rules r → Applies r ⊎ Lower Applies r → Applies r
-      found w (inl a) = a
-      found w (inr l) = absurd (omega (arith, l .lower, w .none-lower (l .other) (m .applies (l .other) (l .applies))))
+      least : LowestThat rules r → (n : ℕ) (l : List ℕ) → Listed rules n l → number r ≤ n
+      least w n l t = omega (arith, t .number-is, w .none-lower (t .refusal) (t .stands))
 
-  to-rules : (r : Refusal) → Lowest Applies r → lowest rules ≡ some r
-  to-rules r w = lowest-exactly rules rise r .1 (record { applies = m .applies r (w .applies); none-lower = λ s i. least s (m .listed s i) })
+      found : LowestThat rules r → RowOrLower Applies r → RowOf Applies r
+      found w (inl a) = a
+      found w (inr o) = absurd (omega (arith, o .lower, least w (o .other) (o .its-values) (m .applies (o .other) (o .its-values) (o .applies))))
+
+      same : LowestThat rules r → (l : List ℕ) → Listed rules (number r) l → l ≡ values r
+      same w l t =
+          let v : LowestThat rules (t .refusal) = record { applies = t .stands; none-lower = λ s i. omega (arith, t .number-is, w .none-lower s i) } in
+          let f = sym (lowest-exactly rules rise (t .refusal) .1 v) ∙ e in
+          let q : t .refusal ≡ r = cc in
+          sym (t .values-are) ∙ ap values q
+
+  to-rules : (n : ℕ) (l : List ℕ) → Lowest Applies n l → RefusedWith n l some (lowest rules)
+  to-rules n l w =
+      let t = m .applies n l (w .applies) in (
+        t .refusal,
+        lowest-exactly rules rise (t .refusal) .1 (record { applies = t .stands; none-lower = λ s i. omega (arith, t .number-is, least s (m .listed s i)) }),
+        t .number-is,
+        t .values-are,
+      )
     where
-      least : (s : Refusal) → Applies s ⊎ Lower Applies s → number r ≤ number s
-      least s (inl a) = w .none-lower s a
-      least s (inr l) = omega (arith, l .lower, w .none-lower (l .other) (l .applies))
+      least : (s : Refusal) → RowOrLower Applies s → n ≤ number s
+      least s (inl a) = w .none-lower (number s) (values s) a
+      least s (inr o) = omega (arith, o .lower, w .none-lower (o .other) (o .its-values) (o .applies))
 
   pub lowest-of : LowestOf Applies (lowest rules)
   lowest-of =
       record {
-        given = λ r. (to-words r, to-rules r);
-        only-then = (λ e r a. lowest-none rules .0 e r (m .applies r a), λ none. lowest-none rules .1 (λ r i. refute none r (m .listed r i)));
+        given = λ n l. (
+          λ (r, e, p, q). rw (← p, ← q) (to-words r e),
+          to-rules n l,
+        );
+        only-then = (
+          λ e n l a. let t = m .applies n l a in lowest-none rules .0 e (t .refusal) (t .stands),
+          λ none. lowest-none rules .1 (λ r i. refute none r (m .listed r i)),
+        );
       }
     where
-      refute : ((r : Refusal) → Applies r → ⊥) → (r : Refusal) → Applies r ⊎ Lower Applies r → ⊥
-      refute none r (inl a) = none r a
-      refute none r (inr l) = none (l .other) (l .applies)
+      refute : ((n : ℕ) (l : List ℕ) → Applies n l → ⊥) → (r : Refusal) → RowOrLower Applies r → ⊥
+      refute none r (inl a) = none (number r) (values r) a
+      refute none r (inr o) = none (o .other) (o .its-values) (o .applies)
+
+-- what some rules list, more rules list; what some rows say, more rows say
+in-more-rules : (rules more : List Rule) → ((rule : Rule) → In rule rules → In rule more) → (n : ℕ) (l : List ℕ) → Listed rules n l → Listed more n l
+in-more-rules rules more f n l t = record { refusal = t .refusal; stands = f (refuse (t .refusal) true) (t .stands); number-is = t .number-is; values-are = t .values-are }
+
+in-more-rows : (A B : ℕ → List ℕ → Type 0) → ((n : ℕ) (l : List ℕ) → A n l → B n l) → (s : Refusal) → RowOrLower A s → RowOrLower B s
+in-more-rows A B f s (inl a) = inl (f (number s) (values s) a)
+in-more-rows A B f s (inr o) = inr (record { other = o .other; its-values = o .its-values; applies = f (o .other) (o .its-values) (o .applies); lower = o .lower })
 
 -- two lists, and the rows of either
-module _ (rules others : List Rule) (A B : Refusal → Type 0) where
+module _ (rules others : List Rule) (A B : ℕ → List ℕ → Type 0) where
   pub join : Matches rules A → Matches others B → Matches (rules ++ others) (A or B)
   join m n =
       record {
@@ -68,21 +111,13 @@ module _ (rules others : List Rule) (A B : Refusal → Type 0) where
         applies = by-row;
       }
     where
-      first : (s : Refusal) → A s ⊎ Lower A s → (A or B) s ⊎ Lower (A or B) s
-      first s (inl a) = inl (inl a)
-      first s (inr l) = inr (record { other = l .other; applies = inl (l .applies); lower = l .lower })
+      by-list : (s : Refusal) → In (refuse s true) rules ⊎ In (refuse s true) others → RowOrLower (A or B) s
+      by-list s (inl i) = in-more-rows A (A or B) (λ n l a. inl a) s (m .listed s i)
+      by-list s (inr i) = in-more-rows B (A or B) (λ n l b. inr b) s (n .listed s i)
 
-      second : (s : Refusal) → B s ⊎ Lower B s → (A or B) s ⊎ Lower (A or B) s
-      second s (inl b) = inl (inr b)
-      second s (inr l) = inr (record { other = l .other; applies = inr (l .applies); lower = l .lower })
-
-      by-list : (s : Refusal) → In (refuse s true) rules ⊎ In (refuse s true) others → (A or B) s ⊎ Lower (A or B) s
-      by-list s (inl i) = first s (m .listed s i)
-      by-list s (inr i) = second s (n .listed s i)
-
-      by-row : (s : Refusal) → (A or B) s → In (refuse s true) (rules ++ others)
-      by-row s (inl a) = in-first others (m .applies s a)
-      by-row s (inr b) = in-second rules (n .applies s b)
+      by-row : (k : ℕ) (l : List ℕ) → (A or B) k l → Listed (rules ++ others) k l
+      by-row k l (inl a) = in-more-rules rules (rules ++ others) (λ rule i. in-first others i) k l (m .applies k l a)
+      by-row k l (inr b) = in-more-rules others (rules ++ others) (λ rule i. in-second rules i) k l (n .applies k l b)
 
 -- ONE RULE AT A TIME: what is listed is the first rule, with its test true, or stands further on
 module _ (C : Refusal → Type 0) (r : Refusal) (test : Bool) (rules : List Rule) where
@@ -103,14 +138,14 @@ no-rule C s i = absurd (none-in refl i)
     none-in e here = let z : _≡_ {A = ℕ} 0 1 = cc in omega arith
     none-in e (later i) = let z : _≡_ {A = ℕ} 0 1 = cc in omega arith
 
--- and a rule whose test is true is listed
-pub at-rule : (s r : Refusal) (test : Bool) (rules : List Rule) → s ≡ r → test ≡ true → In (refuse s true) (refuse r test ∷ rules)
-at-rule s r test rules q e = rw (q, e) here
+-- and a rule whose test is true is listed, with the number and the values of its refusal; so is one further on
+pub at-rule : (r : Refusal) (test : Bool) {rules : List Rule} {n : ℕ} {l : List ℕ} → number r ≡ n → values r ≡ l → test ≡ true → Listed (refuse r test ∷ rules) n l
+at-rule r test p q e = record { refusal = r; stands = rw e here; number-is = p; values-are = q }
+
+pub further : {rule : Rule} {rules : List Rule} {n : ℕ} {l : List ℕ} → Listed rules n l → Listed (rule ∷ rules) n l
+further {rule} {rules} {n} {l} t = in-more-rules rules (rule ∷ rules) (λ other i. later i) n l t
 
 -- a list of one rule
-pub one-rule : (r : Refusal) (test : Bool) (Row : Refusal → Type 0) → (test ≡ true → Row r) → ((s : Refusal) → Row s → (s ≡ r) × (test ≡ true)) → Matches (refuse r test ∷ []) Row
-one-rule r test Row f g =
-    record {
-      listed = λ s i. inl (by-rule Row r test [] s i f (no-rule Row s));
-      applies = λ s a. at-rule s r test [] (g s a .0) (g s a .1);
-    }
+pub one-rule : (r : Refusal) (test : Bool) (Row : ℕ → List ℕ → Type 0) → (test ≡ true → RowOf Row r)
+    → ((n : ℕ) (l : List ℕ) → Row n l → Listed (refuse r test ∷ []) n l) → Matches (refuse r test ∷ []) Row
+one-rule r test Row f g = record { listed = λ s i. inl (by-rule (RowOf Row) r test [] s i f (no-rule (RowOf Row) s)); applies = g }

@@ -76,7 +76,7 @@ kept : {A : Type 0} (leaves : Option Refusal → List A) (before : List A) → (
 kept leaves before same o answer e r q = ap leaves (sym e ∙ q) ∙ same r
 
 -- the answer's refusal is the lowest of the rules, and so the lowest that applies
-answered : (rules : List Rule) (Applies : Refusal → Type 0) (a : Option Refusal) → rising rules ≡ true → Matches rules Applies → a ≡ lowest rules → LowestOf Applies a
+answered : (rules : List Rule) (Applies : ℕ → List ℕ → Type 0) (a : Option Refusal) → rising rules ≡ true → Matches rules Applies → a ≡ lowest rules → LowestOf Applies a
 answered rules Applies a rise m e = subst (LowestOf Applies) (sym e) (lowest-of rules rise Applies m)
 
 tested : (plan : List ℤ) (rows cols lift target : ℕ) (a : GirthTest) → Answer plan rows cols lift target a → ofOutcome (a .outcome) ≡ lowest (testRules plan rows cols lift target)

@@ -1,16 +1,16 @@
 -- Rows 1 to 6 and 14, the plan designer's: the tests of `validate` and of the girth test say what the rows say. Assumes nothing.
 use Prim.Native.Nat.{ℕ, zero, suc, _*_}
-use mathlib.Core.Path.{_≡_, refl, sym, ap}
+use mathlib.Core.Path.{_≡_, refl, ap}
 use mathlib.Core.Logic.{_↔_, inl, _≢_}
 use mathlib.Core.Bool.{true, false, not, _||_}
-use mathlib.Core.List.{List, []}
+use mathlib.Core.List.{List, [], _∷_}
 use borrow.Author.Tests.{ltb-true, lt-ltb, eqb-false, ne-eqb, not-true}
 use lib.Dec.{ltb, eqb}
 use lib.IntN.{ℤ, pos, negsuc}
 use lib.ListN.{length, getD}
 use Rattle.refusal.specs.declared.Refusal.{Refusal}
 use Rattle.refusal.specs.declared.Refusal.the-variants.{Rows, Cols, Lift, Bits, PlanLength, Entry, Target}
-use Rattle.refusal.specs.Lowest.{refuse, In, later}
+use Rattle.refusal.specs.Lowest.{refuse, In}
 use Rattle.refusal.specs.Place.{First, firstPlace, somewhere}
 use Rattle.refusal.proofs.Place.{first-exactly}
 use Rattle.graph.specs.Count.{member}
@@ -20,7 +20,7 @@ use Rattle.exponent.specs.Limits.{outside, planRules}
 use Rattle.exponent.proofs.Rules.{outside-exactly}
 use Rattle.girth.specs.Test.{allowed, testRules}
 use Rattle.promises.specs.TurnedAway.{row-3, IsBlock, empty, filled, PlanRow, row-1, row-2, of-lift, row-4, row-5, row-6, TargetRow, row-14, _or_}
-use Rattle.promises.proofs.Matching.{Matches, join, by-rule, no-rule, at-rule, one-rule}
+use Rattle.promises.proofs.Matching.{Listed, RowOf, Matches, join, by-rule, no-rule, at-rule, further, one-rule}
 
 -- two numbers that the test finds different
 pub differs : (m n : ℕ) → (not (eqb m n) ≡ true) ↔ (m ≢ n)
@@ -49,29 +49,29 @@ module _ (plan : List ℤ) (rows cols lift : ℕ) where
   first-invalid place = first-exactly (invalidEntry lift) (pos 0) (λ z. IsBlock lift z → ⊥) (invalid-exactly lift) plan place
 
   abbrev Row : Refusal → Type 0
-  Row = PlanRow plan rows cols lift
+  Row = RowOf (PlanRow plan rows cols lift)
 
   listed : (s : Refusal) → In (refuse s true) (planRules plan rows cols lift) → Row s
   unfolding planRules
   listed s i =
       by-rule Row Rows (outside 1 192 rows) _ s i (λ e. row-1 (outside-exactly 1 192 rows .0 e)) λ i.
       by-rule Row Cols (outside 1 512 cols) _ s i (λ e. row-2 (outside-exactly 1 512 cols .0 e)) λ i.
-      by-rule Row Lift (outside 1 4096 lift) _ s i (λ e. of-lift Lift (row-3 (outside-exactly 1 4096 lift .0 e))) λ i.
+      by-rule Row Lift (outside 1 4096 lift) _ s i (λ e. of-lift 3 [] (row-3 (outside-exactly 1 4096 lift .0 e))) λ i.
       by-rule Row Bits (ltb 65536 (cols * lift)) _ s i (λ e. row-4 (ltb-true 65536 (cols * lift) e)) λ i.
       by-rule Row PlanLength (not (eqb (length plan) (rows * cols))) _ s i (λ e. row-5 (differs (length plan) (rows * cols) .0 e)) λ i.
       by-rule Row (Entry (firstPlace (invalidEntry lift) plan)) (somewhere (invalidEntry lift) plan) [] s i (λ e. row-6 _ (first-invalid _ .0 (e, refl))) λ i.
       no-rule Row s i
 
-  applies : (s : Refusal) → Row s → In (refuse s true) (planRules plan rows cols lift)
+  applies : (n : ℕ) (l : List ℕ) → PlanRow plan rows cols lift n l → Listed (planRules plan rows cols lift) n l
   unfolding planRules
-  applies s (row-1 h) = at-rule _ _ _ _ refl (outside-exactly 1 192 rows .1 h)
-  applies s (row-2 h) = later (at-rule _ _ _ _ refl (outside-exactly 1 512 cols .1 h))
-  applies s (of-lift r (row-3 h)) = later (later (at-rule _ _ _ _ refl (outside-exactly 1 4096 lift .1 h)))
-  applies s (row-4 h) = later (later (later (at-rule _ _ _ _ refl (lt-ltb 65536 (cols * lift) h))))
-  applies s (row-5 h) = later (later (later (later (at-rule _ _ _ _ refl (differs (length plan) (rows * cols) .1 h)))))
-  applies s (row-6 place h) =
+  applies n l (row-1 h) = at-rule _ _ refl refl (outside-exactly 1 192 rows .1 h)
+  applies n l (row-2 h) = further (at-rule _ _ refl refl (outside-exactly 1 512 cols .1 h))
+  applies n l (of-lift m k (row-3 h)) = further (further (at-rule _ _ refl refl (outside-exactly 1 4096 lift .1 h)))
+  applies n l (row-4 h) = further (further (further (at-rule _ _ refl refl (lt-ltb 65536 (cols * lift) h))))
+  applies n l (row-5 h) = further (further (further (further (at-rule _ _ refl refl (differs (length plan) (rows * cols) .1 h)))))
+  applies n l (row-6 place h) =
       let (t, e) = first-invalid place .1 h in
-      later (later (later (later (later (at-rule _ _ _ _ (ap Entry (sym e)) t)))))
+      further (further (further (further (further (at-rule _ _ refl (ap (_∷ []) e) t)))))
 
   pub plan-matches : Matches (planRules plan rows cols lift) (PlanRow plan rows cols lift)
   plan-matches = record { listed = λ s i. inl (listed s i); applies = applies }
@@ -94,8 +94,8 @@ test-matches plan rows cols lift target =
     join (planRules plan rows cols lift) _ (PlanRow plan rows cols lift) (TargetRow target) (plan-matches plan rows cols lift)
     (one-rule Target (not (allowed target)) (TargetRow target) told row)
   where
-    told : not (allowed target) ≡ true → TargetRow target Target
+    told : not (allowed target) ≡ true → TargetRow target 14 []
     told e = let (p, q, r, s) = target-exactly target .0 e in row-14 p q r s
 
-    row : (s : Refusal) → TargetRow target s → (s ≡ Target) × (not (allowed target) ≡ true)
-    row s (row-14 p q r t) = (refl, target-exactly target .1 (p, q, r, t))
+    row : (n : ℕ) (l : List ℕ) → TargetRow target n l → Listed (refuse Target (not (allowed target)) ∷ []) n l
+    row n l (row-14 p q r t) = at-rule _ _ refl refl (target-exactly target .1 (p, q, r, t))

@@ -4,7 +4,7 @@ use Prim.Native.Nat.{ℕ, _*_, _<_}
 use mathlib.Core.Path.{_≡_, refl, sym, ap, subst, _∙_}
 use mathlib.Core.Logic.{_↔_, _⊎_, inl, inr, _≢_}
 use mathlib.Core.Bool.{true, not, _||_}
-use mathlib.Core.List.{List, []}
+use mathlib.Core.List.{List, [], _∷_}
 use native.Mathlib.Omega.{arith}
 use borrow.Author.Tests.{ltb-true, lt-ltb}
 use lib.Dec.{ltb, eqb}
@@ -12,13 +12,14 @@ use lib.IntN.{ℤ, pos, negsuc}
 use lib.ListN.{length, getD, List·getD-eq-default}
 use Rattle.refusal.specs.declared.Refusal.{Refusal}
 use Rattle.refusal.specs.declared.Refusal.the-variants.{Lift, Order, TableLength, NegativeEntry, MaskByte, MaskWeight, TableBits, PlanPlace}
-use Rattle.refusal.specs.Number.{number}
-use Rattle.refusal.specs.Lowest.{refuse, In, later}
+use Rattle.refusal.specs.Number.{number, values}
+use Rattle.refusal.specs.Lowest.{refuse, In}
 use Rattle.refusal.specs.Place.{First, firstPlace, somewhere}
 use Rattle.refusal.proofs.Place.{first-exactly, at-first, somewhere-no}
 use Rattle.graph.proofs.Decide.{by-bool, by-le, both-ways}
 use Rattle.exponent.specs.Limits.{outside}
 use Rattle.exponent.proofs.Rules.{outside-exactly}
+use Rattle.square.specs.declared.search.Quad.{Quad}
 use Rattle.square.specs.Table.{tableAt, negative, unsound, firstRepeat}
 use Rattle.square.specs.Mask.{common, weight, Common}
 use Rattle.square.proofs.Repeats as repeats
@@ -27,22 +28,25 @@ use Rattle.grid.specs.Plan.{planRows, planCols}
 use Rattle.table.specs.Build.{supplyRules, unsoundAt, tableRules, maskRules, buildRules}
 use Rattle.promises.specs.TurnedAway.{LiftRow, row-3, SquareRow, row-7, row-8, IsNegative, TableRow, row-9, row-10, MaskRow, row-11, row-12, row-13, PlaceRow, row-15, _or_}
 use Rattle.promises.specs.TurnedAway as away
-use Rattle.promises.proofs.Matching.{Lower, Matches, join, by-rule, no-rule, at-rule}
+use Rattle.promises.proofs.Matching.{Listed, RowOf, RowOrLower, Matches, join, by-rule, no-rule, at-rule, further}
 use Rattle.promises.proofs.PlanRows.{differs}
 
 -- 7 AND 8
 module _ (order numbers : ℕ) where
-  square-listed : (s : Refusal) → In (refuse s true) (supplyRules order numbers) → SquareRow order numbers s
+  abbrev Row : Refusal → Type 0
+  Row = RowOf (SquareRow order numbers)
+
+  square-listed : (s : Refusal) → In (refuse s true) (supplyRules order numbers) → Row s
   unfolding supplyRules
   square-listed s i =
-      by-rule (SquareRow order numbers) Order (outside 4 7 order) _ s i (λ e. row-7 (outside-exactly 4 7 order .0 e)) λ i.
-      by-rule (SquareRow order numbers) TableLength (not (eqb numbers (order * order))) [] s i (λ e. row-8 (differs numbers (order * order) .0 e)) λ i.
-      no-rule (SquareRow order numbers) s i
+      by-rule Row Order (outside 4 7 order) _ s i (λ e. row-7 (outside-exactly 4 7 order .0 e)) λ i.
+      by-rule Row TableLength (not (eqb numbers (order * order))) [] s i (λ e. row-8 (differs numbers (order * order) .0 e)) λ i.
+      no-rule Row s i
 
-  square-applies : (s : Refusal) → SquareRow order numbers s → In (refuse s true) (supplyRules order numbers)
+  square-applies : (n : ℕ) (l : List ℕ) → SquareRow order numbers n l → Listed (supplyRules order numbers) n l
   unfolding supplyRules
-  square-applies s (row-7 h) = at-rule _ _ _ _ refl (outside-exactly 4 7 order .1 h)
-  square-applies s (row-8 h) = later (at-rule _ _ _ _ refl (differs numbers (order * order) .1 h))
+  square-applies n l (row-7 h) = at-rule _ _ refl refl (outside-exactly 4 7 order .1 h)
+  square-applies n l (row-8 h) = further (at-rule _ _ refl refl (differs numbers (order * order) .1 h))
 
   pub supply-matches : Matches (supplyRules order numbers) (SquareRow order numbers)
   supply-matches = record { listed = λ s i. inl (square-listed s i); applies = square-applies }
@@ -60,23 +64,23 @@ negative-exactly z = (is-negative z, found)
 
 -- 3 AND 7 TO 10
 module _ (order lift : ℕ) (table : List ℤ) where
-  abbrev Rows : Refusal → Type 0
+  abbrev Rows : ℕ → List ℕ → Type 0
   Rows = LiftRow lift or SquareRow order (length table) or TableRow order lift table
 
   first-negative : (place : ℕ) → ((somewhere negative table ≡ true) × (firstPlace negative table ≡ place)) ↔ First (length table) (λ p. IsNegative (getD table p (pos 0))) place
   first-negative place = first-exactly negative (pos 0) IsNegative negative-exactly table place
 
   -- an order of 0 has no rows that repeat; it is turned away by 7
-  repeat-row : unsound order lift (tableAt order table) ≡ true → Rows (unsoundAt (firstRepeat order lift (tableAt order table))) ⊎ Lower Rows (unsoundAt (firstRepeat order lift (tableAt order table)))
+  repeat-row : unsound order lift (tableAt order table) ≡ true → RowOrLower Rows (unsoundAt (firstRepeat order lift (tableAt order table)))
   repeat-row e =
       by-le 1 order
       (λ h. let (r, first) = repeats.first-exactly order lift (tableAt order table) h (firstRepeat order lift (tableAt order table)) .0 (e, refl) in inl (inr (row-10 _ r first)))
-      (λ h. inr (record { other = Order; applies = inl (inr (row-7 (inl (omega arith)))); lower = omega arith }))
+      (λ h. inr (record { other = 7; its-values = []; applies = inl (inr (row-7 (inl (omega arith)))); lower = omega arith }))
 
-  table-listed : (s : Refusal) → In (refuse s true) (tableRules order lift table) → Rows s ⊎ Lower Rows s
+  table-listed : (s : Refusal) → In (refuse s true) (tableRules order lift table) → RowOrLower Rows s
   unfolding tableRules
   table-listed s i =
-      let C : Refusal → Type 0 = λ s. Rows s ⊎ Lower Rows s in
+      let C = RowOrLower Rows in
       by-rule C Lift (outside 1 4096 lift) _ s i (λ e. inl (inl (inl (row-3 (outside-exactly 1 4096 lift .0 e))))) λ i.
       by-rule C Order (outside 4 7 order) _ s i (λ e. inl (inl (inr (row-7 (outside-exactly 4 7 order .0 e))))) λ i.
       by-rule C TableLength (not (eqb (length table) (order * order))) _ s i (λ e. inl (inl (inr (row-8 (differs (length table) (order * order) .0 e))))) λ i.
@@ -84,24 +88,24 @@ module _ (order lift : ℕ) (table : List ℤ) where
       by-rule C (unsoundAt (firstRepeat order lift (tableAt order table))) (unsound order lift (tableAt order table)) [] s i repeat-row λ i.
       no-rule C s i
 
-  table-applies : (s : Refusal) → Rows s → In (refuse s true) (tableRules order lift table)
+  table-applies : (n : ℕ) (l : List ℕ) → Rows n l → Listed (tableRules order lift table) n l
   unfolding tableRules
-  table-applies s (inl (inl (row-3 h))) = at-rule _ _ _ _ refl (outside-exactly 1 4096 lift .1 h)
-  table-applies s (inl (inr (row-7 h))) = later (at-rule _ _ _ _ refl (outside-exactly 4 7 order .1 h))
-  table-applies s (inl (inr (row-8 h))) = later (later (at-rule _ _ _ _ refl (differs (length table) (order * order) .1 h)))
-  table-applies s (inr (row-9 place h)) =
+  table-applies n l (inl (inl (row-3 h))) = at-rule _ _ refl refl (outside-exactly 1 4096 lift .1 h)
+  table-applies n l (inl (inr (row-7 h))) = further (at-rule _ _ refl refl (outside-exactly 4 7 order .1 h))
+  table-applies n l (inl (inr (row-8 h))) = further (further (at-rule _ _ refl refl (differs (length table) (order * order) .1 h)))
+  table-applies n l (inr (row-9 place h)) =
       let (t, e) = first-negative place .1 h in
-      later (later (later (at-rule _ _ _ _ (ap NegativeEntry (sym e)) t)))
-  table-applies s (inr (row-10 q r first)) =
+      further (further (further (at-rule _ _ refl (ap (_∷ []) e) t)))
+  table-applies n l (inr (row-10 q r first)) =
       let (t, e) = repeats.first-exactly order lift (tableAt order table) (omega (arith, r .row-in)) q .1 (r, first) in
-      later (later (later (later (at-rule _ _ _ _ (ap unsoundAt (sym e)) t))))
+      further (further (further (further (at-rule _ _ refl (ap (λ (q : Quad). values (unsoundAt q)) e) t))))
 
   table-matches : Matches (tableRules order lift table) (LiftRow lift or SquareRow order (length table) or TableRow order lift table)
   table-matches = record { listed = table-listed; applies = table-applies }
 
 -- 11 TO 13 AND 15
 module _ (order lift : ℕ) (mask : List ℕ) (room : ℕ) where
-  abbrev Masked : Refusal → Type 0
+  abbrev Masked : ℕ → List ℕ → Type 0
   Masked = MaskRow order lift mask or PlaceRow order mask room
 
   abbrev bad-mask : Type 0
@@ -134,16 +138,16 @@ module _ (order lift : ℕ) (mask : List ℕ) (room : ℕ) where
       let e = by-bool (common order mask) (λ e. e) (λ e. absurd (no-weight-exactly order mask .0 (ap not e) L w)) in
       weight-first order mask L w ∙ sym (weight-is order mask e)
 
-  by-weight : (s : Refusal) → 12 < number s → (Common order mask (weight order mask) → Masked s) → Masked s ⊎ Lower Masked s
+  by-weight : (s : Refusal) → 12 < number s → (Common order mask (weight order mask) → RowOf Masked s) → RowOrLower Masked s
   by-weight s low f =
       by-bool (common order mask)
       (λ e. inl (f (weight-common order mask e)))
-      (λ e. inr (record { other = MaskWeight; applies = inl (row-12 (no-weight-exactly order mask .0 (ap not e))); lower = low }))
+      (λ e. inr (record { other = 12; its-values = []; applies = inl (row-12 (no-weight-exactly order mask .0 (ap not e))); lower = low }))
 
-  mask-listed : (s : Refusal) → In (refuse s true) (maskRules order lift mask room) → Masked s ⊎ Lower Masked s
+  mask-listed : (s : Refusal) → In (refuse s true) (maskRules order lift mask room) → RowOrLower Masked s
   unfolding maskRules
   mask-listed s i =
-      let C : Refusal → Type 0 = λ s. Masked s ⊎ Lower Masked s in
+      let C = RowOrLower Masked in
       let L = weight order mask in
       by-rule C MaskByte (not (eqb (length mask) (order * order)) || somewhere (ltb 1) mask) _ s i (λ e. inl (inl (row-11 (mask-exactly .0 e)))) λ i.
       by-rule C MaskWeight (not (common order mask)) _ s i (λ e. inl (inl (row-12 (no-weight-exactly order mask .0 e)))) λ i.
@@ -151,14 +155,14 @@ module _ (order lift : ℕ) (mask : List ℕ) (room : ℕ) where
       by-rule C PlanPlace (not (eqb room (planRows order L * planCols order L))) [] s i (λ e. by-weight PlanPlace (omega arith) (λ w. inr (row-15 L w (differs _ _ .0 e)))) λ i.
       no-rule C s i
 
-  mask-applies : (s : Refusal) → Masked s → In (refuse s true) (maskRules order lift mask room)
+  mask-applies : (n : ℕ) (l : List ℕ) → Masked n l → Listed (maskRules order lift mask room) n l
   unfolding maskRules
-  mask-applies s (inl (row-11 h)) = at-rule _ _ _ _ refl (mask-exactly .1 h)
-  mask-applies s (inl (row-12 h)) = later (at-rule _ _ _ _ refl (no-weight-exactly order mask .1 h))
-  mask-applies s (inl (row-13 L w h)) =
-      later (later (at-rule _ _ _ _ refl (lt-ltb _ _ (subst (λ (L : ℕ). 65536 < planCols order L * lift) (weight-of L w) h))))
-  mask-applies s (inr (row-15 L w h)) =
-      later (later (later (at-rule _ _ _ _ refl (differs _ _ .1 (subst (λ (L : ℕ). room ≢ planRows order L * planCols order L) (weight-of L w) h)))))
+  mask-applies n l (inl (row-11 h)) = at-rule _ _ refl refl (mask-exactly .1 h)
+  mask-applies n l (inl (row-12 h)) = further (at-rule _ _ refl refl (no-weight-exactly order mask .1 h))
+  mask-applies n l (inl (row-13 L w h)) =
+      further (further (at-rule _ _ refl refl (lt-ltb _ _ (subst (λ (L : ℕ). 65536 < planCols order L * lift) (weight-of L w) h))))
+  mask-applies n l (inr (row-15 L w h)) =
+      further (further (further (at-rule _ _ refl refl (differs _ _ .1 (subst (λ (L : ℕ). room ≢ planRows order L * planCols order L) (weight-of L w) h)))))
 
   mask-matches : Matches (maskRules order lift mask room) (MaskRow order lift mask or PlaceRow order mask room)
   mask-matches = record { listed = mask-listed; applies = mask-applies }

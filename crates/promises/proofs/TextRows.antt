@@ -7,10 +7,9 @@ use mathlib.Core.List.{List, [], _∷_}
 use mathlib.Core.Option.{Option, none, some}
 use native.Mathlib.Omega.{arith}
 use borrow.Author.Tests.{ltb-true, lt-ltb, le-ltb, eqb-true}
-use lib.Dec.{ltb, eqb}
+use lib.Dec.{eqb}
 use lib.IntN.{ℤ}
 use lib.ListN.{length, getD, take, drop}
-use Rattle.refusal.specs.declared.Refusal.{Refusal}
 use Rattle.refusal.specs.declared.Refusal.the-variants.{TextPlace, Token}
 use Rattle.graph.specs.Count.{isSome}
 use Rattle.graph.proofs.Decide.{by-bool, by-le, both-ways}
@@ -22,15 +21,15 @@ use Rattle.lines.specs.Alist.{alist}
 use Rattle.lines.specs.Text.{numbersOf}
 use Rattle.alist.specs.Calls.{alistText, roomRules, writeRules, placeOf, tokenRules, compareRules}
 use Rattle.promises.specs.TurnedAway.{PlanRow, RoomRow, row-17, IsBlank, tab, line-feed, carriage-return, space, NextToken, Says, FirstWrong, wrong, extra, early, go-on, TokenRow, row-21, _or_}
-use Rattle.promises.proofs.Matching.{Matches, join, one-rule}
+use Rattle.promises.proofs.Matching.{Listed, Matches, join, at-rule, one-rule}
 use Rattle.promises.proofs.PlanRows.{plan-matches}
 
 -- 17
 room-matches : (text place : List ℕ) → Matches (roomRules text place) (RoomRow text place)
 room-matches text place = one-rule (TextPlace (length text)) _ (RoomRow text place) (λ e. row-17 (ltb-true _ _ e)) row
   where
-    row : (s : Refusal) → RoomRow text place s → (s ≡ TextPlace (length text)) × (ltb (length place) (length text) ≡ true)
-    row s (row-17 h) = (refl, lt-ltb _ _ h)
+    row : (n : ℕ) (l : List ℕ) → RoomRow text place n l → Listed (roomRules text place) n l
+    row n l (row-17 h) = at-rule _ _ refl refl (lt-ltb (length place) (length text) h)
 
 -- BLANK BYTES
 blank-found : {b : ℕ} → IsBlank b → blank b ≡ true
@@ -143,13 +142,13 @@ token-matches text numbers = one-rule (Token (placeOf (mismatch text 0 numbers))
     is-some none e = both-ways e refl
     is-some (some place) e = refl
 
-    told : isSome (mismatch text 0 numbers) ≡ true → TokenRow text numbers (Token (placeOf (mismatch text 0 numbers)))
+    told : isSome (mismatch text 0 numbers) ≡ true → TokenRow text numbers 21 (placeOf (mismatch text 0 numbers) ∷ [])
     told e = row-21 _ (wrong-found text numbers 0 _ (omega arith) (is-some (mismatch text 0 numbers) e))
 
-    row : (s : Refusal) → TokenRow text numbers s → (s ≡ Token (placeOf (mismatch text 0 numbers))) × (isSome (mismatch text 0 numbers) ≡ true)
-    row s (row-21 place h) =
+    row : (n : ℕ) (l : List ℕ) → TokenRow text numbers n l → Listed (tokenRules (mismatch text 0 numbers)) n l
+    row n l (row-21 place h) =
         let e = found-wrong text numbers 0 place h (omega arith) in
-        (ap (λ (o : Option ℕ). Token (placeOf o)) (sym e), ap isSome e)
+        at-rule _ _ refl (ap (λ (o : Option ℕ). placeOf o ∷ []) e) (ap isSome e)
 
 -- THE CALLS
 module _ (plan : List ℤ) (rows cols lift : ℕ) where

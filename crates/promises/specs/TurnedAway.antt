@@ -1,4 +1,4 @@
--- The rows of "Turned away" (document 01), by who can cause them: when each refusal applies, and with which values. Each row stands here
+-- The rows of "Turned away" (document 01), by who can cause them: when each number applies, and with which values. Each row stands here
 -- once; the refusals of a call are its rows together (One.antt). Places count from 0.
 use Prim.Native.Nat.{ℕ, _-_, _*_, _≤_, _<_}
 use mathlib.Core.Path.{_≡_}
@@ -8,8 +8,7 @@ use mathlib.Core.Option.{Option, none, some}
 use lib.IntN.{ℤ, pos, negsuc}
 use lib.ListN.{length, getD, take, drop}
 use Rattle.refusal.specs.declared.Refusal.{Refusal}
-use Rattle.refusal.specs.declared.Refusal.the-variants.{Rows, Cols, Lift, Bits, PlanLength, Entry, Order, TableLength, NegativeEntry, Unsound, MaskByte, MaskWeight, TableBits, Target, PlanPlace, WordLength, TextPlace, Byte, Erasure, NoSolution, Token}
-use Rattle.refusal.specs.Number.{number}
+use Rattle.refusal.specs.Number.{number, values}
 use Rattle.refusal.specs.Place.{First}
 use Rattle.graph.specs.Graph.{Bipartite}
 use Rattle.graph.specs.Erasure.{Solution}
@@ -23,8 +22,8 @@ abbrev pub Outside : ℕ → ℕ → ℕ → Type 0
 Outside low high n = (n < low) ⊎ (high < n)
 
 -- PLAN DESIGNER. 3: the block size, for tables too
-pub data LiftRow (lift : ℕ) : Refusal → Type 0 where
-  row-3 : Outside 1 4096 lift → LiftRow lift Lift
+pub data LiftRow (lift : ℕ) : ℕ → List ℕ → Type 0 where
+  row-3 : Outside 1 4096 lift → LiftRow lift 3 []
 
 -- −1 is an empty block, e from 0 to lift − 1 a filled one
 pub data IsBlock (lift : ℕ) : ℤ → Type 0 where
@@ -32,58 +31,58 @@ pub data IsBlock (lift : ℕ) : ℤ → Type 0 where
   filled : (e : ℕ) → e < lift → IsBlock lift (pos e)
 
 -- 1 to 6: rows, columns, block size, bits, the list's length, the first entry that is no block
-pub data PlanRow (plan : List ℤ) (rows cols lift : ℕ) : Refusal → Type 0 where
-  row-1 : Outside 1 192 rows → PlanRow plan rows cols lift Rows
-  row-2 : Outside 1 512 cols → PlanRow plan rows cols lift Cols
-  of-lift : (r : Refusal) → LiftRow lift r → PlanRow plan rows cols lift r
-  row-4 : 65536 < cols * lift → PlanRow plan rows cols lift Bits
-  row-5 : length plan ≢ rows * cols → PlanRow plan rows cols lift PlanLength
-  row-6 : (place : ℕ) → First (length plan) (λ p. IsBlock lift (getD plan p (pos 0)) → ⊥) place → PlanRow plan rows cols lift (Entry place)
+pub data PlanRow (plan : List ℤ) (rows cols lift : ℕ) : ℕ → List ℕ → Type 0 where
+  row-1 : Outside 1 192 rows → PlanRow plan rows cols lift 1 []
+  row-2 : Outside 1 512 cols → PlanRow plan rows cols lift 2 []
+  of-lift : (n : ℕ) (l : List ℕ) → LiftRow lift n l → PlanRow plan rows cols lift n l
+  row-4 : 65536 < cols * lift → PlanRow plan rows cols lift 4 []
+  row-5 : length plan ≢ rows * cols → PlanRow plan rows cols lift 5 []
+  row-6 : (place : ℕ) → First (length plan) (λ p. IsBlock lift (getD plan p (pos 0)) → ⊥) place → PlanRow plan rows cols lift 6 (place ∷ [])
 
 -- 14: the target
-pub data TargetRow (target : ℕ) : Refusal → Type 0 where
-  row-14 : target ≢ 6 → target ≢ 8 → target ≢ 10 → target ≢ 12 → TargetRow target Target
+pub data TargetRow (target : ℕ) : ℕ → List ℕ → Type 0 where
+  row-14 : target ≢ 6 → target ≢ 8 → target ≢ 10 → target ≢ 12 → TargetRow target 14 []
 
 -- TABLE MAKER. 7 and 8: the order J, and how many numbers the table's list has
-pub data SquareRow (order numbers : ℕ) : Refusal → Type 0 where
-  row-7 : Outside 4 7 order → SquareRow order numbers Order
-  row-8 : numbers ≢ order * order → SquareRow order numbers TableLength
+pub data SquareRow (order numbers : ℕ) : ℕ → List ℕ → Type 0 where
+  row-7 : Outside 4 7 order → SquareRow order numbers 7 []
+  row-8 : numbers ≢ order * order → SquareRow order numbers 8 []
 
 pub data IsNegative : ℤ → Type 0 where
   negative : (n : ℕ) → IsNegative (negsuc n)
 
 -- 9, and 10: the four numbers repeat, and none before them do (a negative entry, which 9 turns away, is taken for 0)
-pub data TableRow (order lift : ℕ) (table : List ℤ) : Refusal → Type 0 where
-  row-9 : (place : ℕ) → First (length table) (λ p. IsNegative (getD table p (pos 0))) place → TableRow order lift table (NegativeEntry place)
+pub data TableRow (order lift : ℕ) (table : List ℤ) : ℕ → List ℕ → Type 0 where
+  row-9 : (place : ℕ) → First (length table) (λ p. IsNegative (getD table p (pos 0))) place → TableRow order lift table 9 (place ∷ [])
   row-10 : (q : Quad) → Repeat order lift (tableAt order table) q → ((v : Quad) → Repeat order lift (tableAt order table) v → Before v q → ⊥)
-      → TableRow order lift table (Unsound (q .i) (q .k) (q .r) (q .t))
+      → TableRow order lift table 10 (q .i ∷ q .k ∷ q .r ∷ q .t ∷ [])
 
 -- MASK MAKER. 11 to 13: the bytes, the common weight L, the bits of the plan
-pub data MaskRow (order lift : ℕ) (mask : List ℕ) : Refusal → Type 0 where
-  row-11 : (length mask ≢ order * order) ⊎ ((place : ℕ) × (1 < getD mask place 0)) → MaskRow order lift mask MaskByte
-  row-12 : ((L : ℕ) → Common order mask L → ⊥) → MaskRow order lift mask MaskWeight
-  row-13 : (L : ℕ) → Common order mask L → 65536 < order * (L * L) * lift → MaskRow order lift mask TableBits
+pub data MaskRow (order lift : ℕ) (mask : List ℕ) : ℕ → List ℕ → Type 0 where
+  row-11 : (length mask ≢ order * order) ⊎ ((place : ℕ) × (1 < getD mask place 0)) → MaskRow order lift mask 11 []
+  row-12 : ((L : ℕ) → Common order mask L → ⊥) → MaskRow order lift mask 12 []
+  row-13 : (L : ℕ) → Common order mask L → 65536 < order * (L * L) * lift → MaskRow order lift mask 13 []
 
 -- CALLER LENDING MEMORY. 15: the place for the plan has `room` numbers
-pub data PlaceRow (order : ℕ) (mask : List ℕ) (room : ℕ) : Refusal → Type 0 where
-  row-15 : (L : ℕ) → Common order mask L → room ≢ 3 * (L * order) * (order * (L * L)) → PlaceRow order mask room PlanPlace
+pub data PlaceRow (order : ℕ) (mask : List ℕ) (room : ℕ) : ℕ → List ℕ → Type 0 where
+  row-15 : (L : ℕ) → Common order mask L → room ≢ 3 * (L * order) * (order * (L * L)) → PlaceRow order mask room 15 []
 
 -- 16, and of the FILM READER 18: a byte above 2
-pub data WordRow (bits : ℕ) (word : List ℕ) : Refusal → Type 0 where
-  row-16 : length word ≢ bits → WordRow bits word WordLength
-  row-18 : (place : ℕ) → First (length word) (λ p. 2 < getD word p 0) place → WordRow bits word (Byte place)
+pub data WordRow (bits : ℕ) (word : List ℕ) : ℕ → List ℕ → Type 0 where
+  row-16 : length word ≢ bits → WordRow bits word 16 []
+  row-18 : (place : ℕ) → First (length word) (λ p. 2 < getD word p 0) place → WordRow bits word 18 (place ∷ [])
 
 -- 17: the text is longer than the place, with its length
-pub data RoomRow (text place : List ℕ) : Refusal → Type 0 where
-  row-17 : length place < length text → RoomRow text place (TextPlace (length text))
+pub data RoomRow (text place : List ℕ) : ℕ → List ℕ → Type 0 where
+  row-17 : length place < length text → RoomRow text place 17 (length text ∷ [])
 
 -- 19: an erasure in a syndrome check
-pub data ErasureRow (word : List ℕ) : Refusal → Type 0 where
-  row-19 : (place : ℕ) → First (length word) (λ p. getD word p 0 ≡ 2) place → ErasureRow word (Erasure place)
+pub data ErasureRow (word : List ℕ) : ℕ → List ℕ → Type 0 where
+  row-19 : (place : ℕ) → First (length word) (λ p. getD word p 0 ≡ 2) place → ErasureRow word 19 (place ∷ [])
 
 -- 20: no word fills the erasures outside U so that every check that touches no bit of U is even
-pub data SolutionRow (G : Bipartite) (word : List ℕ) : Refusal → Type 0 where
-  row-20 : ((v : List ℕ) → Solution G word v → ⊥) → SolutionRow G word NoSolution
+pub data SolutionRow (G : Bipartite) (word : List ℕ) : ℕ → List ℕ → Type 0 where
+  row-20 : ((v : List ℕ) → Solution G word v → ⊥) → SolutionRow G word 20 []
 
 -- SENDER OF A TEXT. Tokens are runs of bytes other than these
 pub data IsBlank : ℕ → Type 0 where
@@ -118,21 +117,25 @@ pub data FirstWrong (text : List ℕ) : ℕ → List ℕ → ℕ → Type 0 wher
       → FirstWrong text at (n ∷ ns) place
 
 -- 21, for the numbers of the plan's alist
-pub data TokenRow (text numbers : List ℕ) : Refusal → Type 0 where
-  row-21 : (place : ℕ) → FirstWrong text 0 numbers place → TokenRow text numbers (Token place)
+pub data TokenRow (text numbers : List ℕ) : ℕ → List ℕ → Type 0 where
+  row-21 : (place : ℕ) → FirstWrong text 0 numbers place → TokenRow text numbers 21 (place ∷ [])
 
 -- ROWS TOGETHER, and the lowest number that applies.
 infixl 1 _or_
-abbrev pub _or_ : (Refusal → Type 0) → (Refusal → Type 0) → Refusal → Type 0
-_or_ A B r = A r ⊎ B r
+abbrev pub _or_ : (ℕ → List ℕ → Type 0) → (ℕ → List ℕ → Type 0) → ℕ → List ℕ → Type 0
+_or_ A B n l = A n l ⊎ B n l
 
--- r applies, nothing with a lower number does, and with its number nothing but r: its values are settled
-pub record Lowest (Applies : Refusal → Type 0) (r : Refusal) : Type 0 where
-  pub applies : Applies r
-  pub none-lower : (s : Refusal) → Applies s → number r ≤ number s
-  pub no-other : (s : Refusal) → Applies s → number s ≡ number r → s ≡ r
+-- n applies with the values l, no lower number applies, and n with no other values: they are settled
+pub record Lowest (Applies : ℕ → List ℕ → Type 0) (n : ℕ) (l : List ℕ) : Type 0 where
+  pub applies : Applies n l
+  pub none-lower : (m : ℕ) (k : List ℕ) → Applies m k → n ≤ m
+  pub no-other : (k : List ℕ) → Applies n k → k ≡ l
 
--- the lowest that applies is given, and only then
-pub record LowestOf (Applies : Refusal → Type 0) (answer : Option Refusal) : Type 0 where
-  pub given : (r : Refusal) → (answer ≡ some r) ↔ Lowest Applies r
-  pub only-then : (answer ≡ none) ↔ ((r : Refusal) → Applies r → ⊥)
+-- an answer is a refusal, with the document's number and values
+abbrev pub RefusedWith : {A : Type 0} → ℕ → List ℕ → (Refusal → A) → A → Type 0
+RefusedWith n l refused answer = (x : Refusal) × (answer ≡ refused x) × (number x ≡ n) × (values x ≡ l)
+
+-- the number n with the values l is given exactly where it is the lowest that applies, and no refusal exactly where nothing applies
+pub record LowestOf (Applies : ℕ → List ℕ → Type 0) (answer : Option Refusal) : Type 0 where
+  pub given : (n : ℕ) (l : List ℕ) → RefusedWith n l some answer ↔ Lowest Applies n l
+  pub only-then : (answer ≡ none) ↔ ((n : ℕ) (l : List ℕ) → Applies n l → ⊥)
