@@ -7,8 +7,6 @@ use mathlib.Core.List.{List, [], _∷_}
 use mathlib.Core.Option.{none}
 use lib.IntN.{ℤ}
 use lib.ListN.{getD, take, replicate}
-use Rattle.refusal.specs.declared.Refusal.{Refusal}
-use Rattle.refusal.specs.Number.{number, values}
 use Rattle.refusal.specs.Lowest.{lowest}
 use Rattle.exponent.specs.declared.block.Block.the-variants.{Shift}
 use Rattle.exponent.specs.Plan.{shifts, blockAt}
@@ -31,6 +29,7 @@ use Rattle.table.specs.declared.Built.the-variants.{Built, Refused as NotBuilt}
 use Rattle.table.specs.Build.{buildRules, builtPlan, built}
 use Rattle.alist.specs.Calls.{alistText}
 use Rattle.planning.specs.Output.{output}
+use Rattle.promises.specs.TurnedAway.{RefusedWith}
 use Rattle.promises.specs.Two.{Passing}
 
 -- every answer of the girth test is that the plan fails; that it fails and the shown cycle has so many edges
@@ -39,10 +38,6 @@ Failing plan rows cols lift target = (r : GirthTest) → Answer plan rows cols l
 
 abbrev pub FailingWith : ℕ → List ℤ → ℕ → ℕ → ℕ → ℕ → Type 0
 FailingWith edges plan rows cols lift target = (r : GirthTest) → Answer plan rows cols lift target r → (r .outcome ≡ Failed) × (2 * r .n ≡ edges)
-
--- an answer is a refusal, with the document's number and values
-abbrev pub RefusedWith : {A : Type 0} → ℕ → List ℕ → (Refusal → A) → A → Type 0
-RefusedWith n l refused answer = (x : Refusal) × (answer ≡ refused x) × (number x ≡ n) × (values x ≡ l)
 
 -- the one-row plan 0 1
 abbrev pub pair : List ℤ
