@@ -12,7 +12,6 @@ ghost use Rattle.alist.specs.Calls.{alistText, writeRules, written, laid
 mod put; // put.rt: lines and the whole text, written where there is room
 
 use comparer::Verdict;
-use comparer::reader;
 use exponent::Shape;
 use exponent::Validity;
 use refusal::Refusal;
@@ -44,7 +43,7 @@ fn compare_valid(plan: &[i16], s: Shape, text: &[u8]) -> Comparison
     requires { ⌜ WellFormed (now plan) (s .rows) (s .cols) (s .lift) ⌝ }
     ensures { λ r. ⌜ r ≡ comparison (lowest (tokenRules (mismatch (now (text .entry)) 0 (numbersOf (linesOf (graphOf (now (plan .entry)) s)))))) ⌝ }
 {
-    match reader::read_alist(text, plan, s) {
+    match comparer::compare(text, plan, s) {
         Verdict::Same => Comparison::Agrees,
         Verdict::Differs(p) => Comparison::Refused(Refusal::Token(p)),
     }

@@ -3,6 +3,8 @@ use exponent::Shape;
 use lines::Layout;
 use lines::Line;
 use lines::generate;
+use lines::sides;
+use lines::sides::Side;
 use tokens::Cursor;
 use tokens::Step;
 ghost use mathlib.Core.Path.{_≡_};
@@ -11,13 +13,14 @@ ghost use lib.ListN.{length};
 ghost use Rattle.exponent.specs.Limits.{WellFormed};
 ghost use Rattle.exponent.specs.Tanner.{graphOf};
 ghost use Rattle.tokens.specs.Tokens.{mismatch};
-ghost use Rattle.tokens.specs.Steps.{readLine};
+ghost use Rattle.tokens.specs.Steps.{readLine, mismatchAfter};
 ghost use Rattle.lines.specs.Alist.{linesOf};
 ghost use Rattle.lines.specs.Lines.{lineOf, Measured, InLine};
 ghost use Rattle.lines.specs.Text.{numbersOf};
 ghost use Rattle.comparer.specs.Verdict.{verdict};
+ghost use Rattle.comparer.specs.Later.{laterLines};
 
-pub mod reader; // reader.rt: a lent text with the place that reading has come to
+mod reader; // reader.rt: a lent text, and how far reading has come in it
 
 // The text is the alist; or it differs first at this place.
 pub enum Verdict {
@@ -54,7 +57,7 @@ fn expect_line(
     Step::Next(Cursor { at })
 }
 
-// Holds the tokens from a place on to all lines; after them no token may follow.
+// Holds the tokens from a place on to the lines behind the first; after them no token may follow.
 fn compare_lines(
     text: &[u8],
     c: Cursor,
@@ -64,11 +67,11 @@ fn compare_lines(
     l: Layout,
 ) -> Verdict
     requires { ⌜ Measured (now plan) l (now down) (now along) × (c .at ≤ length (now text)) ⌝ }
-    ensures { λ r. ⌜ r ≡ verdict (mismatch (now (text .entry)) (c .at) (numbersOf (linesOf (graphOf (now (plan .entry)) (l .shape))))) ⌝ }
+    ensures { λ r. ⌜ r ≡ verdict (mismatch (now (text .entry)) (c .at) (numbersOf (laterLines (graphOf (now (plan .entry)) (l .shape))))) ⌝ }
 {
     let count = lines::line_count(l);
     let mut at = c.at;
-    let mut i = 0;
+    let mut i = 1;
     while i < count {
         let line = lines::line_at(l, i);
         match expect_line(text, Cursor { at }, plan, down, along, l, line) {
@@ -85,10 +88,10 @@ fn compare_lines(
     }
 }
 
-// Compares a text, from a place on, with the alist of a valid plan.
+// Compares a text, from a place on, with the lines of a valid plan behind the first.
 fn compare_from(text: &[u8], c: Cursor, plan: &[i16], s: Shape) -> Verdict
     requires { ⌜ WellFormed (now plan) (s .rows) (s .cols) (s .lift) × (c .at ≤ length (now text)) ⌝ }
-    ensures { λ r. ⌜ r ≡ verdict (mismatch (now (text .entry)) (c .at) (numbersOf (linesOf (graphOf (now (plan .entry)) s)))) ⌝ }
+    ensures { λ r. ⌜ r ≡ verdict (mismatch (now (text .entry)) (c .at) (numbersOf (laterLines (graphOf (now (plan .entry)) s)))) ⌝ }
 {
     let mut down = [0u16; index::PLACES];
     let mut along = [0u16; index::PLACES];
@@ -97,13 +100,29 @@ fn compare_from(text: &[u8], c: Cursor, plan: &[i16], s: Shape) -> Verdict
     compare_lines(text, c, plan, &down, &along, l)
 }
 
-// The same from any place: past the text's end the first number is missing.
-pub fn compare_at(text: &[u8], at: usize, plan: &[i16], s: Shape) -> Verdict
+// The same behind a step, from any place: a wrong step decides, and past the text's end the first number is missing.
+fn compare_after(text: &[u8], step: Step, plan: &[i16], s: Shape) -> Verdict
     requires { ⌜ WellFormed (now plan) (s .rows) (s .cols) (s .lift) ⌝ }
-    ensures { λ r. ⌜ r ≡ verdict (mismatch (now (text .entry)) at (numbersOf (linesOf (graphOf (now (plan .entry)) s)))) ⌝ }
+    ensures { λ r. ⌜ r ≡ verdict (mismatchAfter (now (text .entry)) step (numbersOf (laterLines (graphOf (now (plan .entry)) s)))) ⌝ }
 {
-    if text.len() < at {
-        return Verdict::Differs(at);
+    match step {
+        Step::Next(c) => {
+            let at = c.at;
+            if text.len() < at {
+                return Verdict::Differs(at);
+            }
+            compare_from(text, c, plan, s)
+        }
+        Step::Wrong(p) => Verdict::Differs(p),
     }
-    compare_from(text, Cursor { at }, plan, s)
+}
+
+// Compares a text, from its start, with the alist of a valid plan: the two sizes of its first line are read first.
+pub fn compare(text: &[u8], plan: &[i16], s: Shape) -> Verdict
+    requires { ⌜ WellFormed (now plan) (s .rows) (s .cols) (s .lift) ⌝ }
+    ensures { λ r. ⌜ r ≡ verdict (mismatch (now (text .entry)) 0 (numbersOf (linesOf (graphOf (now (plan .entry)) s)))) ⌝ }
+{
+    let bits = sides::node_count(s, Side::Bits);
+    let checks = sides::node_count(s, Side::Checks);
+    reader::read_alist(text, bits, checks, plan, s)
 }

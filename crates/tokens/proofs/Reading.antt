@@ -3,20 +3,15 @@ use Prim.Native.Nat.{ℕ, _≤_, _<_}
 use mathlib.Core.Path.{_≡_, refl, sym, ap, _∙_}
 use mathlib.Core.Bool.{Bool, true, false, cond}
 use mathlib.Core.List.{List, [], _∷_, _++_}
-use mathlib.Core.Option.{Option, some}
+use mathlib.Core.Option.{some}
 use native.Mathlib.Omega.{arith}
 use lib.ListN.{length}
 use Rattle.tokens.specs.declared.Cursor.{Cursor}
 use Rattle.tokens.specs.declared.Step.{Step}
 use Rattle.tokens.specs.declared.Step.the-variants.{Next, Wrong}
 use Rattle.tokens.specs.Tokens.{start, stop, tokenAt, right, mismatch}
-use Rattle.tokens.specs.Steps.{expectAt, andThen, readLine}
+use Rattle.tokens.specs.Steps.{expectAt, andThen, readLine, expectAfter, mismatchAfter}
 use Rattle.tokens.proofs.Runs.{start-le, start-end, tokenAt-le, token-end, number-none}
-
--- what is left after a step
-abbrev pub onStep : Step → (ℕ → Option ℕ) → Option ℕ
-onStep (Next c) go = go (c .at)
-onStep (Wrong p) go = some p
 
 -- the place where an answer goes on, or 0
 abbrev goes : Step → ℕ
@@ -59,21 +54,26 @@ line-goes text (n ∷ ns) at h = go (expectAt text at n) (expect-goes text at n 
     go (Next c) e f = f (c .at) e
     go (Wrong p) e f = e
 
-pub step-mismatch : (text : List ℕ) (at n : ℕ) (ns : List ℕ) → mismatch text at (n ∷ ns) ≡ onStep (expectAt text at n) (λ p. mismatch text p ns)
+pub step-mismatch : (text : List ℕ) (at n : ℕ) (ns : List ℕ) → mismatch text at (n ∷ ns) ≡ mismatchAfter text (expectAt text at n) ns
 unfolding mismatch expectAt
 step-mismatch text at n ns = go (right text at n)
   where
-    go : (t : Bool) → cond t (mismatch text (stop text at) ns) (some (start text at)) ≡ onStep (cond t (Next (record { at = stop text at })) (Wrong (start text at))) (λ p. mismatch text p ns)
+    go : (t : Bool) → cond t (mismatch text (stop text at) ns) (some (start text at)) ≡ mismatchAfter text (cond t (Next (record { at = stop text at })) (Wrong (start text at))) ns
     go true = refl
     go false = refl
 
-pub read-append : (text : List ℕ) (ns ms : List ℕ) (at : ℕ) → mismatch text at (ns ++ ms) ≡ onStep (readLine text at ns) (λ p. mismatch text p ms)
+-- a number read behind a step is the first of those that come
+pub after-number : (text : List ℕ) (s : Step) (n : ℕ) (ns : List ℕ) → mismatchAfter text (expectAfter text s n) ns ≡ mismatchAfter text s (n ∷ ns)
+after-number text (Next c) n ns = sym (step-mismatch text (c .at) n ns)
+after-number text (Wrong p) n ns = refl
+
+pub read-append : (text : List ℕ) (ns ms : List ℕ) (at : ℕ) → mismatch text at (ns ++ ms) ≡ mismatchAfter text (readLine text at ns) ms
 unfolding readLine
 read-append text [] ms at = refl
 read-append text (n ∷ ns) ms at = step-mismatch text at n (ns ++ ms) ∙ go (expectAt text at n) (λ p. read-append text ns ms p)
   where
-    go : (s : Step) → ((p : ℕ) → mismatch text p (ns ++ ms) ≡ onStep (readLine text p ns) (λ q. mismatch text q ms))
-        → onStep s (λ p. mismatch text p (ns ++ ms)) ≡ onStep (andThen s (λ p. readLine text p ns)) (λ p. mismatch text p ms)
+    go : (s : Step) → ((p : ℕ) → mismatch text p (ns ++ ms) ≡ mismatchAfter text (readLine text p ns) ms)
+        → mismatchAfter text s (ns ++ ms) ≡ mismatchAfter text (andThen s (λ p. readLine text p ns)) ms
     go (Next c) f = f (c .at)
     go (Wrong p) f = refl
 

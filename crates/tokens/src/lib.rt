@@ -1,10 +1,10 @@
-// Numbers in decimal, and the tokens of a text (document 01, "alist text").
+// The tokens of a text, held to numbers in decimal (document 01, "alist text").
 ghost use mathlib.Core.Path.{_≡_};
 ghost use Prim.Native.Nat.{_+_, _≤_};
 ghost use lib.ListN.{length};
 ghost use Rattle.decimal.specs.Decimal.{decimal};
 ghost use Rattle.tokens.specs.Tokens.{blank, start, tokenAt, same};
-ghost use Rattle.tokens.specs.Steps.{expectAt};
+ghost use Rattle.tokens.specs.Steps.{expectAt, expectAfter};
 
 // The place that reading has come to.
 pub struct Cursor {
@@ -95,12 +95,18 @@ pub fn expect_number(text: &[u8], c: Cursor, n: usize) -> Step
     }
 }
 
-// The same from any place: past the text's end nothing is right.
-pub fn expect_at(text: &[u8], at: usize, n: usize) -> Step
-    ensures { λ r. ⌜ r ≡ expectAt (now (text .entry)) at n ⌝ }
+// The same behind a step, from any place: a wrong step stays, and past the text's end no token is right.
+pub fn expect_after(text: &[u8], step: Step, n: usize) -> Step
+    ensures { λ r. ⌜ r ≡ expectAfter (now (text .entry)) step n ⌝ }
 {
-    if text.len() < at {
-        return Step::Wrong(at);
+    match step {
+        Step::Next(c) => {
+            let at = c.at;
+            if text.len() < at {
+                return Step::Wrong(at);
+            }
+            expect_number(text, c, n)
+        }
+        Step::Wrong(p) => Step::Wrong(p),
     }
-    expect_number(text, Cursor { at }, n)
 }

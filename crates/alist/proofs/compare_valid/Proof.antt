@@ -9,8 +9,8 @@ use Rattle.alist.proofs.Answers.{verdict-same, verdict-differs}
 use Rattle.alist.proofs.compare_valid.Statement.{statement}
 use Rattle.alist.proofs.compare_valid.Tie as tie
 
-read-alist-requires : tie.Need-read-alist-requires
-read-alist-requires c κs = search needs
+compare-requires : tie.Need-compare-requires
+compare-requires c κs = search needs
 
 enum-told : tie.Need-enum-told
 enum-told c = search needs
@@ -21,13 +21,13 @@ enum-known-p c = search needs
 returns : tie.Need-returns
 returns c =
     let a = c .before .before .before .before .args in
-    verdict-same (mismatch (a .text .now) 0 (numbersOf (linesOf (graphOf (a .plan .now) (a .s))))) (sym (c .before .before .read-alist .ensures) ∙ c .enum-told .given .1)
+    verdict-same (mismatch (a .text .now) 0 (numbersOf (linesOf (graphOf (a .plan .now) (a .s))))) (sym (c .before .before .compare .ensures) ∙ c .enum-told .given .1)
 
 returns-2 : tie.Need-returns-2
 returns-2 c =
     let a = c .before .before .before .before .before .args in
-    verdict-differs (mismatch (a .text .now) 0 (numbersOf (linesOf (graphOf (a .plan .now) (a .s))))) _ (sym (c .before .before .before .read-alist .ensures) ∙ c .before .p .given .1)
+    verdict-differs (mismatch (a .text .now) 0 (numbersOf (linesOf (graphOf (a .plan .now) (a .s))))) _ (sym (c .before .before .before .compare .ensures) ∙ c .before .p .given .1)
 
 pub compare-valid-spec : {M : Type 1} → statement M
 compare-valid-spec =
-    tie.close (tie.spec read-alist-requires enum-told enum-known-p returns returns-2)
+    tie.close (tie.spec compare-requires enum-told enum-known-p returns returns-2)

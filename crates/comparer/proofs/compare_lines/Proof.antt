@@ -1,4 +1,4 @@
--- `comparer::compare_lines` meets its contract. The loop's invariant: the text differs from the alist where it differs from the lines from line i on.
+-- `comparer::compare_lines` meets its contract. The loop's invariant: the text differs from the lines behind the first where it differs from the lines from line i on.
 -- The measure is how many lines are left. Assumes nothing.
 use Prim.Native.Nat.{ℕ, _+_, _-_, _≤_}
 use mathlib.Core.Path.{_≡_, sym, ap, _∙_}
@@ -10,20 +10,20 @@ use Rattle.exponent.specs.Tanner.{graphOf}
 use Rattle.tokens.specs.Tokens.{mismatch}
 use Rattle.tokens.proofs.Reading.{line-le}
 use Rattle.lines.specs.declared.sides.Side.the-variants.{Bits, Checks}
-use Rattle.lines.specs.Alist.{linesOf}
 use Rattle.lines.specs.Sides.{Small}
 use Rattle.lines.specs.Lines.{lineOf}
 use Rattle.lines.specs.Text.{numbersOf}
 use Rattle.lines.proofs.Lanes.{small, nodes-few}
-use Rattle.lines.proofs.Rest.{linesFrom, lines-start, lines-next, lines-end}
+use Rattle.lines.proofs.Rest.{linesFrom, lines-next, lines-end}
 use Rattle.comparer.specs.Verdict.{verdict}
-use Rattle.comparer.proofs.Reading.{line-right, line-wrong, extra, agrees}
+use Rattle.comparer.specs.Later.{laterLines}
+use Rattle.comparer.proofs.Reading.{line-right, line-wrong, extra, agrees, lines-later}
 use Rattle.comparer.proofs.compare_lines.Statement.{statement}
 use Rattle.comparer.proofs.compare_lines.Tie as tie
 
 abbrev Inv-loop : tie.InvT-loop
 Inv-loop text plan down along l count at₀ i₀ at i =
-    (at ≤ length text) × (mismatch text at₀ (numbersOf (linesOf (graphOf plan (l .shape)))) ≡ mismatch text at (numbersOf (linesFrom plan (l .shape) i)))
+    (at ≤ length text) × (mismatch text at₀ (numbersOf (laterLines (graphOf plan (l .shape)))) ≡ mismatch text at (numbersOf (linesFrom plan (l .shape) i)))
 
 abbrev μ-loop : tie.MeasureT-loop
 μ-loop text plan down along l count at₀ i₀ at i = count - i
@@ -49,7 +49,7 @@ line-count-requires c κs = let t = c .before .before .before in small _ (t .arg
 loop-holds : tie.Need-loop-holds Inv-loop μ-loop
 loop-holds c =
     let t = c .before .before .before .before in
-    (t .pre .1, ap (λ (ls : List (List ℕ)). mismatch (t .args .text .now) (t .args .c .at) (numbersOf ls)) (sym (lines-start (t .args .plan .now) (t .args .l .shape))))
+    (t .pre .1, ap (λ (ls : List (List ℕ)). mismatch (t .args .text .now) (t .args .c .at) (numbersOf ls)) (sym (lines-later (t .args .plan .now) (t .args .l .shape))))
 
 line-at-requires : tie.Need-line-at-requires Inv-loop μ-loop
 line-at-requires c κs =
