@@ -48,7 +48,7 @@ module _ {A : Type 0} (f : List ℕ → A) (test : ℕ → Bool) (skips : (k : �
       let p = h .inside in
       ap f (range-next k n (omega arith))
       ∙ skips k (range (k + 1) (n - (k + 1))) (h .none-between k (omega arith) (omega arith))
-      ∙ jump-by d (k + 1) n m (omega arith) (record { from-here = omega arith; inside = p; none-between = λ i a b. h .none-between i (omega arith) b })
+      ∙ jump-by d (k + 1) n m (omega arith) (record { from-here = omega arith; inside = p; none-between = λ i a b. h .none-between i (omega arith) b; passes = h .passes })
 
   pub jump : (k n m : ℕ) → NextFrom test k n m → f (range k (n - k)) ≡ f (range m (n - m))
   jump k n m h = jump-by (m - k) k n m (omega (arith, h .from-here)) h

@@ -57,9 +57,8 @@ fn check_valid(plan: &[i16], shape: Shape, word: &[u8]) -> Syndrome
     requires { ⌜ WellFormed (now plan) (shape .rows) (shape .cols) (shape .lift) × (length (now word) ≡ shape .cols * shape .lift) ⌝ }
     ensures { λ r. ⌜ r ≡ found (shape .rows * shape .lift) (lowestOdd (tanner (now (plan .entry)) (shape .rows) (shape .cols) (shape .lift)) (now (word .entry))) ⌝ }
 {
-    let mut down = [0u16; index::PLACES];
     let mut along = [0u16; index::PLACES];
-    index::build(plan, shape, &mut down, &mut along);
+    index::build_along(plan, shape, &mut along);
     let c = lowest_odd(plan, &along, shape, word);
     if c < shape.rows * shape.lift {
         return Syndrome::Odd(c);
