@@ -1,4 +1,5 @@
-/* Quasi-cyclic LDPC plans: the nine functions of libqcldpc.a (`rt staticlib qcldpc`), for C99 on x86-64.
+/* Quasi-cyclic LDPC plans: the nine functions of libqcldpc.a (`rt staticlib qcldpc`), for C99 on x86-64. A program is linked
+ * with them by `-L target/staticlib -lqcldpc`.
  *
  * A plan is rows x cols numbers, row by row: -1 is a zero (empty) block, e from 0 to lift - 1 the identity with its rows
  * shifted right by e. A word is cols x lift bytes: 0 or 1 for a known bit, 2 for an erasure. Bit z of column j is number
@@ -12,6 +13,9 @@
  *
  * Nothing is asked of numbers and bytes. Each pointer points to as many elements as the length behind it says (none are
  * read or written where that is 0), and memory that a function writes overlaps no other memory lent in the same call.
+ * Stack is asked for: every function returns within 1 MiB of it, also where it refuses (README.md has the figure of each); a
+ * thread with less than a function needs is ended by the system. The library keeps no state and allocates nothing, so
+ * several threads may call at once, where none writes memory that another one has lent.
  */
 #ifndef QCLDPC_H
 #define QCLDPC_H

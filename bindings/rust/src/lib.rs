@@ -1,20 +1,25 @@
-//! Safe calls to the proved library of quasi-cyclic LDPC plans. Nothing is asked of a caller: whatever numbers and bytes
-//! are handed in, a call answers, or refuses with the lowest number that applies and leaves lent memory as it was.
+//! Safe calls to the proved library of quasi-cyclic LDPC plans. Nothing is asked of numbers and bytes: whatever is handed
+//! in, a call answers, or refuses with the lowest number that applies and leaves lent memory as it was.
 //!
-//! The plan of one row with the shifts 0 and 1, at lift 2, has four bits and two checks. A word that lost a bit gets it back:
+//! Stack is asked for: every call returns within 1 MiB of it, also where it refuses (README.md has the figure of each); a
+//! thread with less than a call needs is ended by the system. The library keeps no state, so several threads may call at once.
+//!
+//! The plan of README.md's worked frame has 3 rows, 3 columns and lift 3, so nine bits and nine checks. It passes at 6, so any
+//! three lost bits of a codeword come back:
 //!
 //! ```
-//! use qcldpc::{fill, girth, Fill, Girth, Plan, Refusal};
+//! use qcldpc::{fill, girth, syndrome, Fill, Girth, Plan, Refusal, Syndrome};
 //!
-//! let plan = Plan { entries: &[0, 1], rows: 1, cols: 2, lift: 2 };
-//! assert_eq!(girth(&plan, 12), Ok(Girth::Passed));
+//! let plan = Plan { entries: &[0, 0, 0, 0, 1, 2, 0, 2, 1], rows: 3, cols: 3, lift: 3 };
+//! assert_eq!(girth(&plan, 6), Ok(Girth::Passed));
 //!
-//! let mut word = [1, 0, 0, 2];
-//! assert_eq!(fill(&plan, &mut word), Ok(Fill { filled: 1, left: 0 }));
-//! assert_eq!(word, [1, 0, 0, 1]);
+//! let mut word = [2, 1, 1, 2, 0, 0, 1, 1, 2];
+//! assert_eq!(fill(&plan, &mut word), Ok(Fill { filled: 3, left: 0 }));
+//! assert_eq!(word, [1, 1, 1, 0, 0, 0, 1, 1, 1]);
+//! assert_eq!(syndrome(&plan, &word), Ok(Syndrome::Even));
 //!
-//! let mut dirty = [1, 0, 0, 7];
-//! assert_eq!(fill(&plan, &mut dirty), Err(Refusal { number: 18, values: vec![3] }));
+//! let mut dirty = [1, 1, 1, 0, 0, 0, 1, 1, 7];
+//! assert_eq!(fill(&plan, &mut dirty), Err(Refusal { number: 18, values: vec![8] }));
 //! ```
 
 pub mod raw;

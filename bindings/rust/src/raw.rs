@@ -1,6 +1,6 @@
 //! The nine functions as `include/qcldpc.h` declares them: a slice passes as a pointer, then its length.
 //! Nothing is asked of numbers and bytes; each pointer goes with the length of its memory, and memory that is written
-//! overlaps no other.
+//! overlaps no other. A call returns within 1 MiB of stack.
 
 /// The places that `out` needs.
 pub const OUT: usize = 32;

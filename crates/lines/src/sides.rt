@@ -55,7 +55,7 @@ fn block_on(plan: &[i16], s: Shape, side: Side, lane: usize, k: usize) -> Block
     }
 }
 
-// A block of a lane from k on before which no block is filled.
+// The next filled block of a lane from k on, or how many blocks the lane has.
 pub fn next_block(down: &[u16], along: &[u16], s: Shape, side: Side, lane: usize, k: usize) -> usize
     requires { ⌜ (lane < lanes s side) × (k < blocks s side) × (s .rows * s .cols ≤ length (now down)) × (s .rows * s .cols ≤ length (now along)) ⌝ }
     ensures { λ r. ⌜ r ≡ nextBlock (now (down .entry)) (now (along .entry)) s side lane k ⌝ }

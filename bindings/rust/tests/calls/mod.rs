@@ -1,0 +1,41 @@
+//! Calls of every function of the C interface, at the largest sizes and refused. All lent memory is made before the call and
+//! stands on the heap, so that the stack is the call's own.
+mod plans;
+mod tables;
+mod texts;
+mod words;
+
+use qcldpc::Refusal;
+use std::fmt::Debug;
+
+/// A call that holds its answer to the one that it must give.
+pub type Call = Box<dyn FnOnce() + Send>;
+
+/// A function with its calls.
+pub struct Function {
+    pub name: &'static str,
+    pub largest: fn() -> Vec<Call>,
+    pub refused: fn() -> Vec<Call>,
+}
+
+/// Every function of `include/qcldpc.h`: a new one gets a line here.
+pub const FUNCTIONS: &[Function] = &[
+    Function { name: "qcldpc_check", largest: plans::check, refused: plans::check_refused },
+    Function { name: "qcldpc_girth", largest: plans::girth, refused: plans::girth_refused },
+    Function { name: "qcldpc_syndrome", largest: words::syndrome, refused: words::syndrome_refused },
+    Function { name: "qcldpc_fill", largest: words::fill, refused: words::fill_refused },
+    Function { name: "qcldpc_array_table", largest: tables::array, refused: tables::array_refused },
+    Function { name: "qcldpc_cyclic_table", largest: tables::cyclic, refused: tables::cyclic_refused },
+    Function { name: "qcldpc_build", largest: tables::build, refused: tables::build_refused },
+    Function { name: "qcldpc_alist_write", largest: texts::write, refused: texts::write_refused },
+    Function { name: "qcldpc_alist_compare", largest: texts::compare, refused: texts::compare_refused },
+];
+
+/// A call and the answer that it must give.
+fn expect<T: PartialEq + Debug + Send + 'static>(call: impl FnOnce() -> T + Send + 'static, wanted: T) -> Call {
+    Box::new(move || assert_eq!(call(), wanted))
+}
+
+fn refusal(number: u64, values: &[u64]) -> Refusal {
+    Refusal { number, values: values.to_vec() }
+}

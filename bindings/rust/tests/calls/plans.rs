@@ -1,0 +1,93 @@
+//! The largest plans and refused ones; the plan check and the girth test of them.
+use super::{expect, refusal, tables, Call};
+use qcldpc::{Girth, OwnedPlan, Refusal};
+use std::fmt::Debug;
+
+fn plan_of(rows: usize, cols: usize, lift: usize, entry: impl Fn(usize, usize) -> i16) -> OwnedPlan {
+    OwnedPlan { entries: (0..rows * cols).map(|k| entry(k / cols, k % cols)).collect(), rows, cols, lift }
+}
+
+/// Row i has blocks in columns i and i + 1 alone, so that one known column gives the next.
+pub fn chain(rows: usize, cols: usize, lift: usize) -> OwnedPlan {
+    plan_of(rows, cols, lift, |i, j| if i + 1 < cols && (j == i || j == i + 1) { 0 } else { -1 })
+}
+
+/// All blocks are filled.
+pub fn full(lift: usize) -> OwnedPlan {
+    plan_of(192, 512, lift, |_, _| lift as i16 - 1)
+}
+
+/// All columns, the largest lift, all blocks filled, and the largest table plan.
+pub fn largest() -> [OwnedPlan; 4] {
+    [chain(192, 512, 128), chain(192, 16, 4096), full(1), tables::largest_plan()]
+}
+
+// The largest plan with blocks only in its last n rows and columns, around a cycle of 2n edges.
+fn ring(n: usize) -> OwnedPlan {
+    plan_of(192, 512, 128, |i, j| match (i.checked_sub(192 - n), j.checked_sub(512 - n)) {
+        (Some(i), Some(j)) if j == i || j == (i + 1) % n => 127,
+        _ => -1,
+    })
+}
+
+// A plan for each of refusals 1 to 6, with the refusal.
+fn refused() -> [(OwnedPlan, Refusal); 6] {
+    let zeros = |rows, cols, lift| plan_of(rows, cols, lift, |_, _| 0);
+    let short = OwnedPlan { entries: vec![0; 192 * 512 - 1], ..zeros(192, 512, 128) };
+    [
+        (zeros(193, 512, 128), refusal(1, &[])),
+        (zeros(192, 513, 127), refusal(2, &[])),
+        (zeros(192, 15, 4097), refusal(3, &[])),
+        (zeros(192, 512, 129), refusal(4, &[])),
+        (short, refusal(5, &[])),
+        (plan_of(192, 512, 128, |i, j| if i == 191 && j == 511 { 128 } else { -1 }), refusal(6, &[192 * 512 - 1])),
+    ]
+}
+
+/// A call on each refused plan.
+pub fn turned_away<T: PartialEq + Debug + Send + 'static>(call: fn(&OwnedPlan) -> Result<T, Refusal>) -> Vec<Call> {
+    refused().into_iter().map(|(plan, wanted)| expect(move || call(&plan), Err(wanted))).collect()
+}
+
+pub fn check() -> Vec<Call> {
+    let plans = largest().into_iter().chain([full(128)]);
+    plans.map(|plan| expect(move || qcldpc::check(&plan.lent()), Ok(()))).collect()
+}
+
+pub fn check_refused() -> Vec<Call> {
+    turned_away(|plan| qcldpc::check(&plan.lent()))
+}
+
+fn joins(plan: &OwnedPlan, check: usize, bit: usize) -> bool {
+    let e = plan.entries[check / plan.lift * plan.cols + bit / plan.lift];
+    e >= 0 && (check + e as usize) % plan.lift == bit % plan.lift
+}
+
+// How many checks the shown cycle has, which must be one; 0 where the plan passes.
+fn shown(plan: &OwnedPlan, target: usize) -> Result<usize, Refusal> {
+    let Girth::Failed { checks, bits } = qcldpc::girth(&plan.lent(), target)? else { return Ok(0) };
+    let n = checks.len();
+    assert!((0..n).all(|k| joins(plan, checks[k], bits[k]) && joins(plan, checks[(k + 1) % n], bits[k])), "no cycle");
+    Ok(n)
+}
+
+pub fn girth() -> Vec<Call> {
+    let mut calls = vec![];
+    let mut add = |plan: OwnedPlan, target, n| calls.push(expect(move || shown(&plan, target), Ok(n)));
+    for n in 2..6 {
+        let target = 2 * n + 2;
+        add(ring(n), target, n);
+        add(full(128), target, 2);
+        add(chain(192, 512, 128), target, 0);
+        add(chain(192, 16, 4096), target, 0);
+        add(tables::largest_plan(), target, 0);
+    }
+    calls
+}
+
+pub fn girth_refused() -> Vec<Call> {
+    let mut calls = turned_away(|plan| qcldpc::girth(&plan.lent(), 12));
+    let plan = tables::largest_plan();
+    calls.push(expect(move || qcldpc::girth(&plan.lent(), 14), Err(refusal(14, &[]))));
+    calls
+}
