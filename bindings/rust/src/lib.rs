@@ -4,8 +4,8 @@
 //! Stack is asked for: every call returns within 1 MiB of it, also where it refuses (README.md has the figure of each); a
 //! thread with less than a call needs is ended by the system. The library keeps no state, so several threads may call at once.
 //!
-//! The plan of README.md's worked frame has 3 rows, 3 columns and lift 3, so nine bits and nine checks. It passes at 6, so any
-//! three lost bits of a codeword come back:
+//! The plan of README.md's worked frame has 3 rows, 3 columns and lift 3, so nine bits and nine checks. It passes at 6 and
+//! each of its columns has three filled blocks, so any three lost bits of a codeword come back:
 //!
 //! ```
 //! use qcldpc::{fill, girth, syndrome, Fill, Girth, Plan, Refusal, Syndrome};

@@ -1,6 +1,6 @@
 // The degree matrices of source 000, Tables II to V: 3 rows and K columns, with zeros in the first column and the last
 // row. What is left, W', stands here as printed there, under its table, K and M, its rows filled up with 0 to 11 places.
-// Each is judged at its printed girth and at the next target.
+// Each is judged at its printed girth and, where that is below 12, at the next target.
 ghost use Prim.Native.Nat.{_≤_};
 use crate::say::judged;
 use crate::say::number;

@@ -3,7 +3,7 @@ ghost use mathlib.Core.Path.{_≡_};
 ghost use Rattle.refusal.specs.Lowest.{lowest};
 ghost use Rattle.exponent.specs.Limits.{planRules, validity};
 
-pub mod block; // block.rt: what an entry of the matrix says; the only place that reads a signed number
+pub mod block; // block.rt: what an entry of the matrix says; the only place that reads an entry of a plan
 pub mod limits; // limits.rt: the tests behind refusals 1 to 6
 pub mod position; // position.rt: a walk's position, and its two steps
 

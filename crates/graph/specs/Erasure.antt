@@ -50,7 +50,7 @@ unfoldable pub any : ℕ → (ℕ → Bool) → Bool
 any zero test = false
 any (suc n) test = test n || any n test
 
--- bit b is the only bit of S that check c touches
+-- check c touches bit b, and exactly one bit of S: where b is in S, it is that bit
 unfoldable pub only : Bipartite → (ℕ → Bool) → ℕ → ℕ → Bool
 only G S c b = member b (bitsOf G c) && eqb (count S (bitsOf G c)) 1
 

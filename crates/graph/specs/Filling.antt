@@ -10,7 +10,7 @@ use Rattle.graph.specs.Count.{below, count}
 use Rattle.graph.specs.Graph.{Bipartite, bitsOf}
 use Rattle.graph.specs.Erasure.{erased, parity, any, only, largest, Solution}
 
--- p is w with some erasures filled, none of them in U, each with the parity that every solution has there
+-- p is as long as w; its erasures are some of w's, with all of U; elsewhere it has the parity that every solution has there
 pub record Derived (G : Bipartite) (w p : List ℕ) : Type 0 where
   pub same-length : length p ≡ length w
   pub within : (b : ℕ) → erased p b ≡ true → erased w b ≡ true

@@ -77,7 +77,8 @@ pub record BenchCases : Type 0 where
   pub one-row-passes-12 : (plan : List ℤ) (cols lift : ℕ) → lowest (planRules plan 1 cols lift) ≡ none → Passing plan 1 cols lift 12
   pub lift-4096-taken : Passing (shifts (0 ∷ 0 ∷ 0 ∷ [])) 1 3 4096 12
   pub lift-4097-refused : (plan : List ℤ) (cols : ℕ) → 1 ≤ cols → cols ≤ 512 → (r : GirthTest) → Answer plan 1 cols 4097 12 r → RefusedWith 3 [] NotTested (r .outcome)
-  -- cyclic J = 4, P = 6: refusal 10 with 0, 2, 1, 3; input "4 6" prints "refused 10", whatever room and text place are lent
+  -- cyclic J = 4, P = 6: refusal 10 with 0, 2, 1, 3; input "4 6" prints "refused 10", whatever room and text place are
+  -- lent (of a place below 11 bytes, as far as it goes)
   pub cyclic-6-refused : RefusedWith 10 (0 ∷ 2 ∷ 1 ∷ 3 ∷ []) NotBuilt (cyclicAnswer 6)
   pub input-4-6 : (room : ℕ) (place : List ℕ) → output (bytes "4 6") room place ≡ bytes "refused 10\n"
   -- P = 7: built, 448 bits, text begins "448 336"

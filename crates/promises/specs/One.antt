@@ -1,4 +1,4 @@
--- Promise 1 (document 01): whatever numbers and bytes are handed in, each call answers with a result, or with the lowest numbered refusal
+-- Promise 1 (demand 1 of the requirement): whatever numbers and bytes are handed in, each call answers with a result, or with the lowest numbered refusal
 -- that applies, and only then; and on a refusal nothing lent has changed.
 use Prim.Native.Nat.{ℕ, _*_}
 use mathlib.Core.Path.{_≡_}

@@ -1,4 +1,4 @@
--- Promise 3 (document 01): where the girth test passes and every column has three filled blocks, a few lost bits always come back.
+-- Promise 3 (demand 3 of the requirement): where the girth test passes and every column has three filled blocks, a few lost bits always come back.
 use Prim.Native.Nat.{ℕ, _≤_}
 use mathlib.Core.Path.{_≡_}
 use mathlib.Core.Logic.{_↔_}

@@ -1,4 +1,4 @@
--- Promise 2 (document 01), a record for each of its sentences, over the definitions that the calls answer by.
+-- Promise 2 (demand 2 of the requirement), a record for each of its sentences, over the definitions that the calls answer by.
 use Prim.Native.Nat.{ℕ, _+_, _*_, _<_}
 use mathlib.Core.Path.{_≡_}
 use mathlib.Core.Logic.{_↔_, _≢_}

@@ -40,7 +40,7 @@ pub fn natural(s: Signed) -> usize
     }
 }
 
-// A filled block's entry, or −1. No other function makes a signed number.
+// A filled block's entry, or −1. No other function makes the signed numbers that the library writes.
 pub fn make(filled: bool, e: usize) -> i16
     requires { ⌜ e < 4096 ⌝ }
     ensures { λ r. ⌜ r ≡ block filled e ⌝ }

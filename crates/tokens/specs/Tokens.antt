@@ -21,7 +21,7 @@ unfoldable pub token : List ℕ → List ℕ
 token [] = []
 token (b ∷ bytes) = cond (blank b) [] (b ∷ token bytes)
 
--- the first byte of the next token from a place on, or the text's length where there is none
+-- the first byte of the next token from a place on, or the text's length where there is none (past the text's end, the place itself)
 unfoldable pub start : List ℕ → ℕ → ℕ
 start text at = at + blanks (drop at text)
 

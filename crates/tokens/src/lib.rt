@@ -33,7 +33,7 @@ fn is_blank(b: u8) -> bool
     b == 32
 }
 
-// The first byte of the next token, or the text's length.
+// The first byte of the next token, or the text's length; past the text's end, the place itself.
 pub fn skip(text: &[u8], at: usize) -> usize
     ensures { λ r. ⌜ r ≡ start (now (text .entry)) at ⌝ }
 {

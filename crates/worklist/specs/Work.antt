@@ -29,7 +29,7 @@ pub record Worked (G : Bipartite) (p q : List ℕ) (n : ℕ) : Type 0 where
   pub work : (w : List ℕ) → Working G w p → Working G w q
   pub fewer : erasures q + n ≡ erasures p
 
--- check c was looked at: it had not exactly one erasure and nothing changed, or its one erasure was filled
+-- check c was looked at: it had not exactly one erasure and nothing changed, or a forced erasure was filled
 pub data FilledCheck (G : Bipartite) (c : ℕ) (p : List ℕ) : List ℕ → Fill → Type 0 where
   stayed : count (erased p) (bitsOf G c) ≢ 1 → FilledCheck G c p p Nothing
   filled : {q : List ℕ} (b : ℕ) → b < length p → Worked G p q 1 → FilledCheck G c p q (Bit b)
