@@ -63,13 +63,17 @@ uint64_t qcldpc_cyclic_table(uint64_t order, int16_t *table, size_t table_len, u
 uint64_t qcldpc_build(uint64_t order, uint64_t lift, const int16_t *table, size_t table_len, const uint8_t *mask,
                       size_t mask_len, int16_t *plan, size_t plan_len, uint64_t *out, size_t out_len);
 
-/* Writes the alist text of a plan; bytes past it stay. Refusals 1 to 6, 17 (so an empty place asks for the length).
+/* Writes the alist text of a plan, padded; bytes past it stay. Refusals 1 to 6, 17 (so an empty place asks for the length).
  * out[0] is the text's length. */
 uint64_t qcldpc_alist_write(const int16_t *plan, size_t plan_len, uint64_t rows, uint64_t cols, uint64_t lift,
                             uint8_t *text, size_t text_len, uint64_t *out, size_t out_len);
 
-/* Compares a text with the alist of a plan, token by token. Refusals 1 to 6, 21: the first byte of the first wrong or
- * extra token, or the text's length where it ends early. */
+/* Compares a text with the alist of a plan, token by token. A text agrees when it is either form of the alist, whole:
+ * padded, with short lists filled up with 0, where line feeds are blanks as space, tab and CR are; or unpadded, with every
+ * short list ended by its line, where each line feed is a token, those of blank lines and the last one included. A text
+ * with some short lists padded and others not agrees with neither form. Refusals 1 to 6, 21: where a text agrees with
+ * neither, the later of the two places at which it first departs from them, each the first byte of a wrong or extra token,
+ * or the text's length where it ends early (so an unpadded text without its last line feed shows its length). */
 uint64_t qcldpc_alist_compare(const int16_t *plan, size_t plan_len, uint64_t rows, uint64_t cols, uint64_t lift,
                               const uint8_t *text, size_t text_len, uint64_t *out, size_t out_len);
 

@@ -69,6 +69,29 @@ static void texts(void)
     EXPECT(qcldpc_alist_compare(plan, 2, 1, 2, 2, text, length + 1, out, QCLDPC_OUT) == 21 && out[0] == length);
 }
 
+/* Compares a text with the plan of one row with the shift 0 and a zero block, at lift 1: the second bit has no check. */
+static uint64_t compare_short(const char *text, size_t length)
+{
+    const int16_t irregular[2] = {0, -1};
+    return qcldpc_alist_compare(irregular, 2, 1, 2, 1, (const uint8_t *)text, length, out, QCLDPC_OUT);
+}
+
+static void unpadded_texts(void)
+{
+    static const char padded[] = "2 1\n1 1\n1 0\n1\n1\n0\n1\n";
+    static const char unpadded[] = "2 1\n1 1\n1 0\n1\n1\n\n1\n";
+    EXPECT(compare_short(padded, 20) == 0);
+    EXPECT(compare_short(padded, 19) == 0);
+    EXPECT(compare_short(unpadded, 19) == 0);
+    /* the padded form lacks a 0 at 17; in the unpadded form the text ends early */
+    EXPECT(compare_short(unpadded, 18) == 21 && out[0] == 18);
+    /* the unpadded form has no 0 at 16; the padded form has no number behind the last */
+    EXPECT(compare_short("2 1\n1 1\n1 0\n1\n1\n0\n1\n2\n", 22) == 21 && out[0] == 20);
+    /* one line feed too many, and one too few */
+    EXPECT(compare_short("2 1\n1 1\n1 0\n1\n1\n\n1\n\n", 20) == 21 && out[0] == 19);
+    EXPECT(compare_short("2 1\n1 1\n1 0\n1\n1\n1\n", 18) == 21 && out[0] == 16);
+}
+
 static void too_small_an_out(void)
 {
     uint8_t word[4] = {1, 0, 0, 2};
@@ -83,6 +106,7 @@ int main(void)
     words();
     tables();
     texts();
+    unpadded_texts();
     too_small_an_out();
     if (!wrong)
         puts("c: 9 functions answer");

@@ -182,7 +182,8 @@ pub fn build(order: usize, lift: usize, table: &[i16], mask: &[u8], plan: &mut [
     )
 }
 
-/// Writes the alist text of a plan and gives its length; bytes past it stay. Refusals 1 to 6, 17 with the length needed.
+/// Writes the alist text of a plan, in its padded form, and gives its length; bytes past it stay. Refusals 1 to 6, 17 with the
+/// length needed.
 pub fn alist_write(plan: &Plan, text: &mut [u8]) -> Result<usize, Refusal> {
     let (p, n, rows, cols, lift) = plan.lent();
     call(
@@ -191,7 +192,25 @@ pub fn alist_write(plan: &Plan, text: &mut [u8]) -> Result<usize, Refusal> {
     )
 }
 
-/// Compares a text with the alist of a plan, token by token. Refusals 1 to 6, 21 with the place.
+/// Compares a text with the alist of a plan, token by token. It agrees when it agrees whole with either form of the alist:
+/// padded, where short lists are filled up with 0 and line feeds are blanks like space, tab and carriage return; or unpadded,
+/// where every short list ends with its line and each line feed is a token, those of blank lines and the last one included.
+///
+/// Refusals 1 to 6, 21. Where a text agrees with neither form, 21 shows the later of the two places at which it first departs
+/// from them: the first byte of a wrong or extra token, or the text's length where it ends early.
+///
+/// The plan here has one row, with a filled and a zero block, so the second of its two bits has no check:
+///
+/// ```
+/// use qcldpc::{alist_compare, Plan, Refusal};
+///
+/// let plan = Plan { entries: &[0, -1], rows: 1, cols: 2, lift: 1 };
+/// assert_eq!(alist_compare(&plan, b"2 1\n1 1\n1 0\n1\n1\n0\n1\n"), Ok(()));
+/// assert_eq!(alist_compare(&plan, b"2 1\n1 1\n1 0\n1\n1\n\n1\n"), Ok(()));
+///
+/// let no_last_line_feed = b"2 1\n1 1\n1 0\n1\n1\n\n1";
+/// assert_eq!(alist_compare(&plan, no_last_line_feed), Err(Refusal { number: 21, values: vec![18] }));
+/// ```
 pub fn alist_compare(plan: &Plan, text: &[u8]) -> Result<(), Refusal> {
     let (p, n, rows, cols, lift) = plan.lent();
     call(|out, len| unsafe { raw::qcldpc_alist_compare(p, n, rows, cols, lift, text.as_ptr(), text.len(), out, len) }, |_| ())

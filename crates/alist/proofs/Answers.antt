@@ -14,11 +14,9 @@ use Rattle.exponent.specs.declared.Validity.{Validity}
 use Rattle.exponent.specs.declared.Validity.the-variants.{Valid, Refused}
 use Rattle.exponent.specs.Limits.{planRules, validity, WellFormed}
 use Rattle.exponent.proofs.Rules.{accepted, valid-none, refused-some}
-use Rattle.tokens.specs.Tokens.{mismatch}
-use Rattle.lines.specs.Alist.{alist}
-use Rattle.lines.specs.Text.{numbersOf}
+use Rattle.exponent.specs.Tanner.{tanner}
 use Rattle.comparer.specs.declared.Verdict.the-variants.{Same, Differs}
-use Rattle.comparer.specs.Verdict.{verdict}
+use Rattle.comparer.specs.Verdict.{departs, verdict}
 use Rattle.alist.specs.declared.Comparison.the-variants as answer
 use Rattle.alist.specs.declared.Comparison.the-variants.{Agrees}
 use Rattle.alist.specs.Calls.{alistText, roomRules, writeRules, tokenRules, compareRules, comparison}
@@ -52,13 +50,13 @@ module _ (plan : List ℤ) (rows cols lift : ℕ) (v : Validity) (e : v ≡ vali
   unfolding writeRules
   write-refused r h place = refused-rules (roomRules (alistText plan rows cols lift) place) r h
 
-  pub compare-valid : v ≡ Valid → (text : List ℕ) → lowest (compareRules plan rows cols lift text) ≡ lowest (tokenRules (mismatch text 0 (numbersOf (alist plan rows cols lift))))
+  pub compare-valid : v ≡ Valid → (text : List ℕ) → lowest (compareRules plan rows cols lift text) ≡ lowest (tokenRules (departs text (tanner plan rows cols lift)))
   unfolding compareRules
-  compare-valid h text = valid-rules (tokenRules (mismatch text 0 (numbersOf (alist plan rows cols lift)))) h
+  compare-valid h text = valid-rules (tokenRules (departs text (tanner plan rows cols lift))) h
 
   pub compare-refused : (r : Refusal) → v ≡ Refused r → (text : List ℕ) → lowest (compareRules plan rows cols lift text) ≡ some r
   unfolding compareRules
-  compare-refused r h text = refused-rules (tokenRules (mismatch text 0 (numbersOf (alist plan rows cols lift)))) r h
+  compare-refused r h text = refused-rules (tokenRules (departs text (tanner plan rows cols lift))) r h
 
 -- the answer of `compare` by that of the comparison
 pub verdict-same : (wrong : Option ℕ) → verdict wrong ≡ Same → Agrees ≡ comparison (lowest (tokenRules wrong))

@@ -21,8 +21,9 @@ use Rattle.decimal.proofs.Digits.{length-small, length-below, length-four}
 use Rattle.lines.specs.declared.Layout.{Layout}
 use Rattle.lines.specs.declared.sides.Side.{Side}
 use Rattle.lines.specs.declared.sides.Side.the-variants.{Bits, Checks}
-use Rattle.lines.specs.Alist.{nodes, neighbours, degrees, greatest, fill, lists, linesOf}
-use Rattle.lines.specs.Text.{item, lineFrom, textOf, numbersOf}
+use Rattle.tokens.specs.declared.Form.the-variants.{Padded}
+use Rattle.lines.specs.Alist.{nodes, neighbours, degrees, greatest, fill, lists, linesIn, linesOf}
+use Rattle.lines.specs.Text.{item, lineFrom, textOf}
 use Rattle.lines.specs.Sides.{blocks, nodeCount}
 use Rattle.lines.specs.Lines.{Measured}
 use Rattle.lines.proofs.Lanes.{small, nodes-of, blocks-few, weight-le, degree-weight}
@@ -32,6 +33,11 @@ use Rattle.alist.specs.Steps.{mostBytes}
 -- the numbers of a line are small
 abbrev Low : List ℕ → Type 0
 Low line = (x : ℕ) → Mem x line → x ≤ 786432
+
+-- the numbers of some lines
+numbersOf : List (List ℕ) → List ℕ
+numbersOf [] = []
+numbersOf (line ∷ lines) = line ++ numbersOf lines
 
 -- Its text: six digits and a space for each number at most, and a line feed for each line.
 
@@ -122,7 +128,7 @@ module _ (plan : List ℤ) (s : Shape) (w : WellFormed plan (s .rows) (s .cols) 
       each-image (λ x. length (neighbours G side x)) (λ n. n ≤ 786432) (below (nodes G side))
       (λ x m. omega (arith, degree-weight plan s w side x, weight-le plan s side (x / s .lift), few-blocks side))
 
-  lists-low : (side : Side) (line : List ℕ) → Mem line (lists (graphOf plan s) side) → Low line
+  lists-low : (side : Side) (line : List ℕ) → Mem line (lists Padded (graphOf plan s) side) → Low line
   unfolding lists
   lists-low side =
       each-image (λ x. fill (greatest (degrees G side)) (map suc (neighbours G side x))) Low (below (nodes G side)) (λ x m.
@@ -132,20 +138,20 @@ module _ (plan : List ℤ) (s : Shape) (w : WellFormed plan (s .rows) (s .cols) 
   most-low side = omega (arith, most-few plan s w side, few-blocks side)
 
   line-low : (line : List ℕ) → Mem line (linesOf (graphOf plan s)) → Low line
-  unfolding linesOf
+  unfolding linesIn
   line-low line (inl e) = rw e (pair-low (nodes G Bits) (nodes G Checks) (nodes-small Bits) (nodes-small Checks))
   line-low line (inr (inl e)) = rw e (pair-low (greatest (degrees G Bits)) (greatest (degrees G Checks)) (omega (arith, most-low Bits)) (omega (arith, most-low Checks)))
   line-low line (inr (inr (inl e))) = rw e (degrees-low Bits)
   line-low line (inr (inr (inr (inl e)))) = rw e (degrees-low Checks)
-  line-low line (inr (inr (inr (inr m)))) = mem-either Low (lists G Bits) (lists G Checks) (lists-low Bits) (lists-low Checks) line m
+  line-low line (inr (inr (inr (inr m)))) = mem-either Low (lists Padded G Bits) (lists Padded G Checks) (lists-low Bits) (lists-low Checks) line m
 
   -- How long the text is at most.
 
-  length-lists : (side : Side) → length (lists (graphOf plan s) side) ≡ nodes (graphOf plan s) side
+  length-lists : (side : Side) → length (lists Padded (graphOf plan s) side) ≡ nodes (graphOf plan s) side
   unfolding lists
   length-lists side = length-map (below (nodes G side)) (λ x. fill (greatest (degrees G side)) (map suc (neighbours G side x))) ∙ length-range 0 (nodes G side)
 
-  numbers-lists : (side : Side) → length (numbersOf (lists (graphOf plan s) side)) ≡ nodes (graphOf plan s) side * greatest (degrees (graphOf plan s) side)
+  numbers-lists : (side : Side) → length (numbersOf (lists Padded (graphOf plan s) side)) ≡ nodes (graphOf plan s) side * greatest (degrees (graphOf plan s) side)
   unfolding lists
   numbers-lists side =
       numbers-map (λ x. fill (greatest (degrees G side)) (map suc (neighbours G side x))) (greatest (degrees G side))
@@ -157,22 +163,22 @@ module _ (plan : List ℤ) (s : Shape) (w : WellFormed plan (s .rows) (s .cols) 
   length-degrees side = length-map-below (λ x. length (neighbours G side x)) (nodes G side)
 
   lines-all : length (linesOf (graphOf plan s)) ≡ 4 + (nodes (graphOf plan s) Bits + nodes (graphOf plan s) Checks)
-  unfolding linesOf
-  lines-all = omega (arith, length-append (lists G Bits) (lists G Checks), length-lists Bits, length-lists Checks)
+  unfolding linesIn
+  lines-all = omega (arith, length-append (lists Padded G Bits) (lists Padded G Checks), length-lists Bits, length-lists Checks)
 
   numbers-all : length (numbersOf (linesOf (graphOf plan s)))
       ≡ 4 + (nodes (graphOf plan s) Bits + nodes (graphOf plan s) Checks)
       + (nodes (graphOf plan s) Bits * greatest (degrees (graphOf plan s) Bits) + nodes (graphOf plan s) Checks * greatest (degrees (graphOf plan s) Checks))
-  unfolding linesOf numbersOf
+  unfolding linesIn numbersOf
   numbers-all =
-      let more = numbersOf (lists G Bits ++ lists G Checks) in
+      let more = numbersOf (lists Padded G Bits ++ lists Padded G Checks) in
       omega (
         arith,
         length-append (degrees G Bits) (degrees G Checks ++ more),
         length-append (degrees G Checks) more,
         length-degrees Bits,
         length-degrees Checks,
-        numbers-append (lists G Bits) (lists G Checks),
+        numbers-append (lists Padded G Bits) (lists Padded G Checks),
         numbers-lists Bits,
         numbers-lists Checks,
       )

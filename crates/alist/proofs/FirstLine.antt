@@ -6,7 +6,7 @@ use lib.IntN.{ℤ}
 use lib.ListN.{length, take}
 use lib.Seq.{take-append-seam}
 use Rattle.exponent.specs.Tanner.{tanner}
-use Rattle.lines.specs.Alist.{linesOf}
+use Rattle.lines.specs.Alist.{linesIn}
 use Rattle.lines.specs.Text.{lineFrom, textOf}
 use Rattle.alist.specs.Calls.{alistText}
 
@@ -15,5 +15,5 @@ abbrev pub sizesLine : ℕ → ℕ → ℕ → List ℕ
 sizesLine rows cols lift = lineFrom 0 (cols * lift ∷ rows * lift ∷ [])
 
 pub text-begins : (plan : List ℤ) (rows cols lift : ℕ) → take (length (sizesLine rows cols lift)) (alistText plan rows cols lift) ≡ sizesLine rows cols lift
-unfolding textOf linesOf tanner
+unfolding textOf linesIn tanner
 text-begins plan rows cols lift = take-append-seam (sizesLine rows cols lift) _

@@ -3,4 +3,5 @@ pub mod FirstLine
 pub mod Laid
 pub mod Bounds
 pub mod Answers
+pub mod ReadBack
 pub mod Roundtrip

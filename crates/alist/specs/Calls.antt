@@ -10,9 +10,10 @@ use Rattle.refusal.specs.declared.Refusal.the-variants.{TextPlace, Token}
 use Rattle.refusal.specs.Lowest.{Rule, refuse}
 use Rattle.graph.specs.Count.{isSome}
 use Rattle.exponent.specs.Limits.{planRules}
-use Rattle.tokens.specs.Tokens.{mismatch}
+use Rattle.exponent.specs.Tanner.{tanner}
 use Rattle.lines.specs.Alist.{alist}
-use Rattle.lines.specs.Text.{textOf, numbersOf}
+use Rattle.lines.specs.Text.{textOf}
+use Rattle.comparer.specs.Verdict.{departs}
 use Rattle.alist.specs.declared.Written.{Written}
 use Rattle.alist.specs.declared.Written.the-variants as answer
 use Rattle.alist.specs.declared.Comparison.{Comparison}
@@ -39,7 +40,7 @@ abbrev pub laid : Option Refusal → List ℕ → List ℕ → List ℕ
 laid none text place = text ++ drop (length text) place
 laid (some r) text place = place
 
--- 21: the place of a mismatch, where there is one
+-- 21: the place at which the text departs from both forms of the alist, where it does
 abbrev pub placeOf : Option ℕ → ℕ
 placeOf none = 0
 placeOf (some place) = place
@@ -48,7 +49,7 @@ abbrev pub tokenRules : Option ℕ → List Rule
 tokenRules wrong = refuse (Token (placeOf wrong)) (isSome wrong) ∷ []
 
 unfoldable pub compareRules : List ℤ → ℕ → ℕ → ℕ → List ℕ → List Rule
-compareRules plan rows cols lift text = planRules plan rows cols lift ++ tokenRules (mismatch text 0 (numbersOf (alist plan rows cols lift)))
+compareRules plan rows cols lift text = planRules plan rows cols lift ++ tokenRules (departs text (tanner plan rows cols lift))
 
 -- the answer of `compare`
 abbrev pub comparison : Option Refusal → Comparison

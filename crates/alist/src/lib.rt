@@ -4,9 +4,7 @@ ghost use lib.ListN.{length};
 ghost use Rattle.refusal.specs.Lowest.{lowest};
 ghost use Rattle.exponent.specs.Limits.{WellFormed};
 ghost use Rattle.exponent.specs.Tanner.{graphOf};
-ghost use Rattle.tokens.specs.Tokens.{mismatch};
-ghost use Rattle.lines.specs.Alist.{linesOf};
-ghost use Rattle.lines.specs.Text.{numbersOf};
+ghost use Rattle.comparer.specs.Verdict.{departs};
 ghost use Rattle.alist.specs.Calls.{alistText, writeRules, written, laid, tokenRules, compareRules, comparison};
 
 mod put; // put.rt: lines and the whole text, written where there is room
@@ -38,10 +36,10 @@ pub fn write(plan: &[i16], rows: usize, cols: usize, lift: usize, text: &mut [u8
     }
 }
 
-// The comparison of a lent text with the alist of a valid plan.
+// The comparison of a lent text with the alist of a valid plan, in either form.
 fn compare_valid(plan: &[i16], s: Shape, text: &[u8]) -> Comparison
     requires { ⌜ WellFormed (now plan) (s .rows) (s .cols) (s .lift) ⌝ }
-    ensures { λ r. ⌜ r ≡ comparison (lowest (tokenRules (mismatch (now (text .entry)) 0 (numbersOf (linesOf (graphOf (now (plan .entry)) s)))))) ⌝ }
+    ensures { λ r. ⌜ r ≡ comparison (lowest (tokenRules (departs (now (text .entry)) (graphOf (now (plan .entry)) s)))) ⌝ }
 {
     match comparer::compare(text, plan, s) {
         Verdict::Same => Comparison::Agrees,
@@ -49,7 +47,7 @@ fn compare_valid(plan: &[i16], s: Shape, text: &[u8]) -> Comparison
     }
 }
 
-// Compares a lent text with the alist of a plan.
+// Compares a lent text with the alist of a plan, in either form.
 pub fn compare(plan: &[i16], rows: usize, cols: usize, lift: usize, text: &[u8]) -> Comparison
     ensures { λ r. ⌜ r ≡ comparison (lowest (compareRules (now (plan .entry)) rows cols lift (now (text .entry)))) ⌝ }
 {

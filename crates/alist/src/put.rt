@@ -6,6 +6,7 @@ use lines::generate;
 use lines::sides;
 use lines::sides::Side;
 use refusal::Refusal;
+use tokens::Form;
 ghost use mathlib.Core.Path.{_≡_};
 ghost use Prim.Native.Nat.{_+_, _<_, _≤_, _^_};
 ghost use lib.ListN.{length};
@@ -71,7 +72,7 @@ fn put_numbers(
     requires { ⌜ Measured (now plan) l (now down) (now along) × InLine l line × (at + length (lineFrom 0 (lineOf (graphOf (now plan) (l .shape)) line)) < 2 ^ 64) ⌝ }
     ensures { λ r. ⌜ Wrote (now (text .entry)) at (lineFrom 0 (lineOf (graphOf (now (plan .entry)) (l .shape)) line)) r (now (text .exit)) ⌝ }
 {
-    let w = lines::width(l, line);
+    let w = lines::width(plan, down, along, l, Form::Padded, line);
     let mut k = 0;
     let mut from = 0;
     let mut o = at;

@@ -19,14 +19,20 @@ use denote.Struct.Declared.{Declared}
 use denote.Struct.Laws as LL
 use denote.Struct.Rest.{all-own, ownAt, rest, own-open, own-out}
 use denote.Struct.Values.{Values}
+use Rattle.tokens.specs.declared.Form.{Form}
 use Rattle.tokens.specs.declared.Step.{Step}
+use Rattle.tokens.proofs.Form as F
+use Rattle.tokens.proofs.Form.Laws as F′
 use Rattle.tokens.proofs.Step as N
 use Rattle.tokens.proofs.Step.Laws as N′
 use Rattle.comparer.specs.declared.reader.Reader.{Reader}
 use Rattle.comparer.proofs.reader.Reader as T
 use Rattle.comparer.proofs.reader.Reader.Laws as T′
 
--- the machine values of a step and of a reader's text
+-- the machine values of a form, of a step and of a reader's text
+abbrev pub formVal : Form → Val
+formVal f = EL.val F.the-type F′.the-laws f
+
 abbrev pub stepVal : Step → Val
 stepVal s = EL.val N.the-type N′.the-laws s
 

@@ -1,2 +1,4 @@
+pub mod Computed
 pub mod Reading
+pub mod Forms
 pub mod Held

@@ -14,16 +14,19 @@ use Rattle.graph.proofs.Count.{length-range, getD-range, getD-map-below, length
 use Rattle.exponent.specs.declared.Shape.{Shape}
 use Rattle.exponent.specs.Tanner.{graphOf}
 use Rattle.exponent.proofs.Numbers.{block-of}
+use Rattle.tokens.specs.declared.Form.{Form}
+use Rattle.tokens.specs.declared.Form.the-variants.{Padded, Unpadded}
 use Rattle.lines.specs.declared.sides.Side.{Side}
 use Rattle.lines.specs.declared.sides.Side.the-variants.{Bits, Checks}
 use Rattle.lines.specs.declared.Layout.{Layout}
 use Rattle.lines.specs.declared.Line.{Line}
 use Rattle.lines.specs.declared.Line.the-variants.{Sizes, Greatest, Degrees, Node}
 use Rattle.lines.specs.declared.generate.Number.{Number}
-use Rattle.lines.specs.Alist.{nodes, neighbours, degrees, greatest, fill, lists, linesOf}
+use Rattle.lines.specs.Alist.{nodes, neighbours, degrees, greatest, fill, lists, linesIn}
 use Rattle.lines.specs.Sides.{nodeCount, weightOf, restOf}
-use Rattle.lines.specs.Lines.{lineOf, order, sideAt, mostOf, Measured, widthOf, lineRest, Carried, Fills}
+use Rattle.lines.specs.Lines.{lineIn, lineOf, order, sideAt, mostOf, Measured, listWidth, widthOf, InLine, lineRest, Carried, Fills}
 use Rattle.lines.proofs.Lanes.{nodes-of, neighbours-rest, degree-weight}
+use Rattle.lines.proofs.Weights.{degree-most}
 
 pub first-side : (k : ℕ) → k ≡ 0 → Bits ≡ sideAt k
 first-side zero e = refl
@@ -67,6 +70,12 @@ fill-next rest from r k w h p =
     let e : w - k ≡ suc (w - (k + 1)) = omega arith in
     ap (λ (m : ℕ). fill m (map suc (rest from))) e ∙ p .fills (w - (k + 1))
 
+-- a list filled up to its own length is the list
+pub fill-own : (ns : List ℕ) → fill (length ns) ns ≡ ns
+unfolding fill
+fill-own [] = refl
+fill-own (n ∷ ns) = ap (λ (l : List ℕ). n ∷ l) (fill-own ns)
+
 -- A line of a measured plan.
 
 module _ (plan : List ℤ) (l : Layout) (down along : List ℕ) (m : Measured plan l down along) where
@@ -77,43 +86,63 @@ module _ (plan : List ℤ) (l : Layout) (down along : List ℕ) (m : Measured pl
   most-is Bits = m .most-bits
   most-is Checks = m .most-checks
 
-  pub line-start : (line : Line) → lineRest plan l line 0 0 ≡ lineOf (graphOf plan (l .shape)) line
-  unfolding lineRest lineOf
-  line-start Sizes = refl
-  line-start Greatest = refl
-  line-start (Degrees side) = refl
-  line-start (Node side x) = rw (sub-zero (mostOf l side), most-is side, neighbours-rest plan (l .shape) (m .ready .well) side x)
+  -- a node's list, filled up to its own length, is the list
+  node-own : (side : Side) (x : ℕ) → fill (weightOf plan (l .shape) side (x / l .shape .lift)) (map suc (neighbours (graphOf plan (l .shape)) side x)) ≡ map suc (neighbours (graphOf plan (l .shape)) side x)
+  node-own side x =
+      ap (λ (w : ℕ). fill w (map suc (neighbours G side x))) (sym (length-map (neighbours G side x) suc ∙ degree-weight plan (l .shape) (m .ready .well) side x))
+      ∙ fill-own (map suc (neighbours G side x))
 
-  pub line-end : (line : Line) (k from : ℕ) → widthOf l line ≤ k → lineRest plan l line k from ≡ []
-  unfolding lineRest lineOf fill
-  line-end Sizes k from h = drop-of-length-le (lineOf G Sizes) h
-  line-end Greatest k from h = drop-of-length-le (lineOf G Greatest) h
-  line-end (Degrees side) k from h = drop-of-length-le (degrees G side) {i = k} (omega (arith, length-degrees G side, nodes-of plan (l .shape) side))
-  line-end (Node side x) k from h = let e : mostOf l side - k ≡ 0 = omega arith in rw e
+  pub line-start : (form : Form) (line : Line) → lineRest plan l line (widthOf form plan l line) 0 0 ≡ lineIn form (graphOf plan (l .shape)) line
+  unfolding lineRest lineIn
+  line-start form Sizes = refl
+  line-start form Greatest = refl
+  line-start form (Degrees side) = refl
+  line-start Padded (Node side x) = rw (sub-zero (mostOf l side), most-is side, neighbours-rest plan (l .shape) (m .ready .well) side x)
+  line-start Unpadded (Node side x) =
+      rw (sub-zero (weightOf plan (l .shape) side (x / l .shape .lift)), ← neighbours-rest plan (l .shape) (m .ready .well) side x) (node-own side x)
+
+  pub line-end : (form : Form) (line : Line) (k from : ℕ) → widthOf form plan l line ≤ k → lineRest plan l line (widthOf form plan l line) k from ≡ []
+  unfolding lineRest lineIn fill
+  line-end form Sizes k from h = drop-of-length-le (lineOf G Sizes) h
+  line-end form Greatest k from h = drop-of-length-le (lineOf G Greatest) h
+  line-end form (Degrees side) k from h = drop-of-length-le (degrees G side) {i = k} (omega (arith, length-degrees G side, nodes-of plan (l .shape) side))
+  line-end form (Node side x) k from h = let e : listWidth form plan l side x - k ≡ 0 = omega arith in rw e
+
+  -- no line is longer in the unpadded form
+  list-le : (form : Form) (side : Side) (x : ℕ) → x < nodeCount (l .shape) side → listWidth form plan l side x ≤ mostOf l side
+  list-le Padded side x i = omega arith
+  list-le Unpadded side x i =
+      omega (arith, most-is side, degree-weight plan (l .shape) (m .ready .well) side x, degree-most G side x (omega (arith, nodes-of plan (l .shape) side)))
+
+  pub width-le : (form : Form) (line : Line) → InLine l line → widthOf form plan l line ≤ widthOf Padded plan l line
+  width-le form Sizes i = omega arith
+  width-le form Greatest i = omega arith
+  width-le form (Degrees side) i = omega arith
+  width-le form (Node side x) i = list-le form side x i
 
   -- the line goes on with v and, after it, from block `next` on
-  module _ (line : Line) (k from : ℕ) (h : k < widthOf l line) where
+  module _ (line : Line) (k from : ℕ) (h : k < widthOf Padded plan l line) where
     abbrev pub GoesOn : ℕ → ℕ → Type 0
-    GoesOn v next = lineRest plan l line k from ≡ v ∷ lineRest plan l line (k + 1) next
+    GoesOn v next = (w : ℕ) → k < w → lineRest plan l line w k from ≡ v ∷ lineRest plan l line w (k + 1) next
 
     pub sizes-next : line ≡ Sizes → (v : ℕ) → v ≡ nodeCount (l .shape) (sideAt k) → GoesOn v 0
-    unfolding lineRest lineOf
-    sizes-next e v q =
+    unfolding lineRest lineIn
+    sizes-next e v q w i =
         rw (e, q ∙ sym (nodes-of plan (l .shape) (sideAt k))) (pair-next (nodes (graphOf plan (l .shape))) k (rw e at h))
 
     pub greatest-next : line ≡ Greatest → (v : ℕ) → v ≡ mostOf l (sideAt k) → GoesOn v 0
-    unfolding lineRest lineOf
-    greatest-next e v q = rw (e, q ∙ most-is (sideAt k)) (pair-next (λ side. greatest (degrees (graphOf plan (l .shape)) side)) k (rw e at h))
+    unfolding lineRest lineIn
+    greatest-next e v q w i = rw (e, q ∙ most-is (sideAt k)) (pair-next (λ side. greatest (degrees (graphOf plan (l .shape)) side)) k (rw e at h))
 
     pub degree-next : (side : Side) → line ≡ Degrees side → (v : ℕ) → v ≡ weightOf plan (l .shape) side (k / l .shape .lift) → (next : ℕ) → GoesOn v next
-    unfolding lineRest lineOf
-    degree-next side e v q next =
+    unfolding lineRest lineIn
+    degree-next side e v q next w j =
         rw (e, q ∙ sym (degree-weight plan (l .shape) (m .ready .well) side k))
         (degrees-next G side k (let i : k < nodeCount (l .shape) side = rw e at h in omega (arith, nodes-of plan (l .shape) side)))
 
     pub node-next : (side : Side) (x : ℕ) → line ≡ Node side x → (r : Number) → Fills (restOf plan (l .shape) side x) from r → GoesOn (r .value) (r .next)
     unfolding lineRest
-    node-next side x e r p = rw e (fill-next (restOf plan (l .shape) side x) from r k (mostOf l side) (rw e at h) p)
+    node-next side x e r p w i = rw e (fill-next (restOf plan (l .shape) side x) from r k w i p)
 
 -- WHAT A LINE CARRIES from number to number.
 
@@ -195,33 +224,33 @@ map-map f g [] = refl
 map-map f g (x ∷ xs) = ap (λ l. f (g x) ∷ l) (map-map f g xs)
 
 -- the lines of the graph are those of the order
-pub lines-are : (plan : List ℤ) (s : Shape) → map (lineOf (graphOf plan s)) (order s) ≡ linesOf (graphOf plan s)
-unfolding order lineOf linesOf lists
-lines-are plan s =
-    ap (λ (ls : List (List ℕ)). lineOf (graphOf plan s) Sizes ∷ lineOf (graphOf plan s) Greatest ∷ degrees (graphOf plan s) Bits ∷ degrees (graphOf plan s) Checks ∷ ls)
-    (map-append (lineOf (graphOf plan s)) (nodesOf s Bits) (nodesOf s Checks)
+pub lines-are : (form : Form) (plan : List ℤ) (s : Shape) → map (lineIn form (graphOf plan s)) (order s) ≡ linesIn form (graphOf plan s)
+unfolding order lineIn linesIn lists
+lines-are form plan s =
+    ap (λ (ls : List (List ℕ)). lineIn form (graphOf plan s) Sizes ∷ lineIn form (graphOf plan s) Greatest ∷ degrees (graphOf plan s) Bits ∷ degrees (graphOf plan s) Checks ∷ ls)
+    (map-append (lineIn form (graphOf plan s)) (nodesOf s Bits) (nodesOf s Checks)
     ∙ ap₂ (λ (a b : List (List ℕ)). a ++ b) (each Bits) (each Checks))
   where
-    each : (side : Side) → map (lineOf (graphOf plan s)) (nodesOf s side) ≡ lists (graphOf plan s) side
+    each : (side : Side) → map (lineIn form (graphOf plan s)) (nodesOf s side) ≡ lists form (graphOf plan s) side
     each side =
-        map-map (lineOf (graphOf plan s)) (λ x. Node side x) (below (nodeCount s side))
-        ∙ ap (λ (n : ℕ). map (λ x. lineOf (graphOf plan s) (Node side x)) (below n)) (sym (nodes-of plan s side))
+        map-map (lineIn form (graphOf plan s)) (λ x. Node side x) (below (nodeCount s side))
+        ∙ ap (λ (n : ℕ). map (λ x. lineIn form (graphOf plan s) (Node side x)) (below n)) (sym (nodes-of plan s side))
 
 -- The lines from line i on, as text and as numbers: `f` takes a line, `join` puts it before the others.
 
-module _ (plan : List ℤ) (s : Shape) where
+module _ (form : Form) (plan : List ℤ) (s : Shape) where
   pub linesFrom : ℕ → List (List ℕ)
-  linesFrom i = map (lineOf (graphOf plan s)) (drop i (order s))
+  linesFrom i = map (lineIn form (graphOf plan s)) (drop i (order s))
 
-  pub lines-start : linesFrom 0 ≡ linesOf (graphOf plan s)
+  pub lines-start : linesFrom 0 ≡ linesIn form (graphOf plan s)
   unfolding linesFrom
-  lines-start = lines-are plan s
+  lines-start = lines-are form plan s
 
   pub lines-next : (i : ℕ) (line : Line) → i < 4 + (nodeCount s Bits + nodeCount s Checks) → line ≡ getD (order s) i Sizes
-      → linesFrom i ≡ lineOf (graphOf plan s) line ∷ linesFrom (i + 1)
+      → linesFrom i ≡ lineIn form (graphOf plan s) line ∷ linesFrom (i + 1)
   unfolding linesFrom
-  lines-next i line h e = rw (add-one i, e) (ap (map (lineOf (graphOf plan s))) (drop-cons (order s) i Sizes (omega (arith, length-order s))))
+  lines-next i line h e = rw (add-one i, e) (ap (map (lineIn form (graphOf plan s))) (drop-cons (order s) i Sizes (omega (arith, length-order s))))
 
   pub lines-end : (i : ℕ) → 4 + (nodeCount s Bits + nodeCount s Checks) ≤ i → linesFrom i ≡ []
   unfolding linesFrom
-  lines-end i h = ap (map (lineOf (graphOf plan s))) (drop-of-length-le (order s) {i = i} (omega (arith, length-order s)))
+  lines-end i h = ap (map (lineIn form (graphOf plan s))) (drop-of-length-le (order s) {i = i} (omega (arith, length-order s)))

@@ -1,4 +1,5 @@
--- The alist of a Tanner graph (document 01, "alist text"), as lines of numbers. Bits and checks are its two sides.
+-- The alist of a Tanner graph (document 01, "alist text"), as lines of numbers, in its two forms (document 02, slip 1). Bits and checks are
+-- its two sides.
 use Prim.Native.Nat.{ℕ, zero, suc, max}
 use mathlib.Core.List.{List, [], _∷_, _++_, map}
 use lib.IntN.{ℤ}
@@ -6,6 +7,8 @@ use lib.ListN.{length}
 use Rattle.graph.specs.Count.{below}
 use Rattle.graph.specs.Graph.{Bipartite, bitsOf, checksOf}
 use Rattle.exponent.specs.Tanner.{tanner}
+use Rattle.tokens.specs.declared.Form.{Form}
+use Rattle.tokens.specs.declared.Form.the-variants.{Padded, Unpadded}
 use Rattle.lines.specs.declared.sides.Side.{Side}
 use Rattle.lines.specs.declared.sides.Side.the-variants.{Bits, Checks}
 
@@ -34,18 +37,27 @@ fill zero ns = []
 fill (suc width) [] = 0 ∷ fill width []
 fill (suc width) (n ∷ ns) = n ∷ fill width ns
 
--- for each bit its checks, or for each check its bits: counted from 1, filled up with 0 to the greatest degree
-unfoldable pub lists : Bipartite → Side → List (List ℕ)
-lists G side = map (λ x. fill (greatest (degrees G side)) (map suc (neighbours G side x))) (below (nodes G side))
+-- a list in a form: filled up with 0 to the width, or as it is
+abbrev pub formed : Form → ℕ → List ℕ → List ℕ
+formed Padded width ns = fill width ns
+formed Unpadded width ns = ns
+
+-- for each bit its checks, or for each check its bits: counted from 1; in the padded form filled up to the greatest degree
+unfoldable pub lists : Form → Bipartite → Side → List (List ℕ)
+lists form G side = map (λ x. formed form (greatest (degrees G side)) (map suc (neighbours G side x))) (below (nodes G side))
 
 -- the lines
-unfoldable pub linesOf : Bipartite → List (List ℕ)
-linesOf G =
+unfoldable pub linesIn : Form → Bipartite → List (List ℕ)
+linesIn form G =
     (nodes G Bits ∷ nodes G Checks ∷ [])
     ∷ (greatest (degrees G Bits) ∷ greatest (degrees G Checks) ∷ [])
     ∷ degrees G Bits
     ∷ degrees G Checks
-    ∷ lists G Bits ++ lists G Checks
+    ∷ lists form G Bits ++ lists form G Checks
+
+-- the lines that are written
+abbrev pub linesOf : Bipartite → List (List ℕ)
+linesOf G = linesIn Padded G
 
 -- the alist of a plan
 abbrev pub alist : List ℤ → ℕ → ℕ → ℕ → List (List ℕ)

@@ -1,4 +1,4 @@
--- What the inner functions compute of a line: its width, and its numbers from one on. The lines in their order.
+-- What the inner functions compute of a line: its width in a form, and its numbers from one on. The lines in their order.
 use Prim.Native.Nat.{ℕ, zero, suc, _+_, _-_, _/_, _%_, _<_}
 use mathlib.Core.Path.{_≡_}
 use mathlib.Core.List.{List, [], _∷_, _++_, map}
@@ -8,21 +8,27 @@ use Rattle.graph.specs.Count.{below}
 use Rattle.graph.specs.Graph.{Bipartite}
 use Rattle.exponent.specs.declared.Shape.{Shape}
 use Rattle.exponent.specs.Tanner.{graphOf}
+use Rattle.tokens.specs.declared.Form.{Form}
+use Rattle.tokens.specs.declared.Form.the-variants.{Padded, Unpadded}
 use Rattle.lines.specs.declared.sides.Side.{Side}
 use Rattle.lines.specs.declared.sides.Side.the-variants.{Bits, Checks}
 use Rattle.lines.specs.declared.Layout.{Layout}
 use Rattle.lines.specs.declared.Line.{Line}
 use Rattle.lines.specs.declared.Line.the-variants.{Sizes, Greatest, Degrees, Node}
 use Rattle.lines.specs.declared.generate.Number.{Number}
-use Rattle.lines.specs.Alist.{nodes, neighbours, degrees, greatest, fill}
+use Rattle.lines.specs.Alist.{nodes, neighbours, degrees, greatest, fill, formed}
 use Rattle.lines.specs.Sides.{Ready, nodeCount, weightOf, restOf}
 
 -- the numbers of a line
-unfoldable pub lineOf : Bipartite → Line → List ℕ
-lineOf G Sizes = nodes G Bits ∷ nodes G Checks ∷ []
-lineOf G Greatest = greatest (degrees G Bits) ∷ greatest (degrees G Checks) ∷ []
-lineOf G (Degrees side) = degrees G side
-lineOf G (Node side x) = fill (greatest (degrees G side)) (map suc (neighbours G side x))
+unfoldable pub lineIn : Form → Bipartite → Line → List ℕ
+lineIn form G Sizes = nodes G Bits ∷ nodes G Checks ∷ []
+lineIn form G Greatest = greatest (degrees G Bits) ∷ greatest (degrees G Checks) ∷ []
+lineIn form G (Degrees side) = degrees G side
+lineIn form G (Node side x) = formed form (greatest (degrees G side)) (map suc (neighbours G side x))
+
+-- those that are written
+abbrev pub lineOf : Bipartite → Line → List ℕ
+lineOf G line = lineIn Padded G line
 
 -- the lines in their order
 unfoldable pub order : Shape → List Line
@@ -50,11 +56,17 @@ pub record Measured (plan : List ℤ) (l : Layout) (down along : List ℕ) : Typ
   pub most-bits : l .bits ≡ greatest (degrees (graphOf plan (l .shape)) Bits)
   pub most-checks : l .checks ≡ greatest (degrees (graphOf plan (l .shape)) Checks)
 
-abbrev pub widthOf : Layout → Line → ℕ
-widthOf l Sizes = 2
-widthOf l Greatest = 2
-widthOf l (Degrees side) = nodeCount (l .shape) side
-widthOf l (Node side x) = mostOf l side
+-- how many numbers the list of a node has: in the unpadded form as many as its degree
+abbrev pub listWidth : Form → List ℤ → Layout → Side → ℕ → ℕ
+listWidth Padded plan l side x = mostOf l side
+listWidth Unpadded plan l side x = weightOf plan (l .shape) side (x / l .shape .lift)
+
+-- how many numbers a line has
+abbrev pub widthOf : Form → List ℤ → Layout → Line → ℕ
+widthOf form plan l Sizes = 2
+widthOf form plan l Greatest = 2
+widthOf form plan l (Degrees side) = nodeCount (l .shape) side
+widthOf form plan l (Node side x) = listWidth form plan l side x
 
 -- the line is one of the plan's
 abbrev pub InLine : Layout → Line → Type 0
@@ -63,12 +75,12 @@ InLine l Greatest = Unit {0}
 InLine l (Degrees side) = Unit {0}
 InLine l (Node side x) = x < nodeCount (l .shape) side
 
--- the numbers of a line from its k-th on, where the blocks before `from` are done
-unfoldable pub lineRest : List ℤ → Layout → Line → ℕ → ℕ → List ℕ
-lineRest plan l Sizes k from = drop k (lineOf (graphOf plan (l .shape)) Sizes)
-lineRest plan l Greatest k from = drop k (lineOf (graphOf plan (l .shape)) Greatest)
-lineRest plan l (Degrees side) k from = drop k (lineOf (graphOf plan (l .shape)) (Degrees side))
-lineRest plan l (Node side x) k from = fill (mostOf l side - k) (map suc (restOf plan (l .shape) side x from))
+-- the numbers of a line of w numbers from its k-th on, where the blocks before `from` are done
+unfoldable pub lineRest : List ℤ → Layout → Line → ℕ → ℕ → ℕ → List ℕ
+lineRest plan l Sizes w k from = drop k (lineOf (graphOf plan (l .shape)) Sizes)
+lineRest plan l Greatest w k from = drop k (lineOf (graphOf plan (l .shape)) Greatest)
+lineRest plan l (Degrees side) w k from = drop k (lineOf (graphOf plan (l .shape)) (Degrees side))
+lineRest plan l (Node side x) w k from = fill (w - k) (map suc (restOf plan (l .shape) side x from))
 
 -- what goes from a number of a line to the next: of degrees the last one, which the nodes of a lane share
 abbrev pub Carried : List ℤ → Layout → Line → ℕ → ℕ → Type 0

@@ -5,9 +5,10 @@ use crate::side_at;
 use crate::sides;
 use crate::sides::Side;
 use exponent::Shape;
+use tokens::Form;
 ghost use mathlib.Core.Path.{_≡_};
 ghost use mathlib.Core.List.{_∷_};
-ghost use Prim.Native.Nat.{_+_, _/_, _%_, _<_};
+ghost use Prim.Native.Nat.{ℕ, _+_, _/_, _%_, _<_};
 ghost use Rattle.lines.specs.Sides.{nodeCount, weightOf, restOf, Ready};
 ghost use Rattle.lines.specs.Lines.{Fills, Measured, widthOf, InLine, Carried, lineRest};
 
@@ -64,7 +65,7 @@ fn degree_at(
     sides::weight(plan, down, along, s, side, k / s.lift)
 }
 
-// The k-th number of a line; `from` is the block that the line has come to, or its last degree.
+// The k-th number of a line, whatever its width w; `from` is the block that the line has come to, or its last degree.
 pub fn number_at(
     plan: &[i16],
     down: &[u16],
@@ -74,8 +75,8 @@ pub fn number_at(
     k: usize,
     from: usize,
 ) -> Number
-    requires { ⌜ Measured (now plan) l (now down) (now along) × InLine l line × (k < widthOf l line) × Carried (now plan) l line k from ⌝ }
-    ensures number { λ r. ⌜ lineRest (now (plan .entry)) l line k from ≡ r .value ∷ lineRest (now (plan .entry)) l line (k + 1) (r .next) ⌝ }
+    requires { ⌜ Measured (now plan) l (now down) (now along) × InLine l line × (k < widthOf Form.Padded (now plan) l line) × Carried (now plan) l line k from ⌝ }
+    ensures number { λ r. ⌜ ((w : ℕ) → k < w → lineRest (now (plan .entry)) l line w k from ≡ r .value ∷ lineRest (now (plan .entry)) l line w (k + 1) (r .next)) ⌝ }
     ensures carried { λ r. ⌜ Carried (now (plan .entry)) l line (k + 1) (r .next) ⌝ }
 {
     match line {

@@ -1,15 +1,16 @@
-// The numbers of the alist, line by line (document 01, "alist text"): here the lines in their order.
+// The numbers of the alist in its two forms, line by line (document 01, "alist text"): here the lines in their order.
 ghost use mathlib.Core.Path.{_≡_};
 ghost use Prim.Native.Nat.{_+_, _<_};
 ghost use lib.ListN.{getD};
-ghost use Rattle.lines.specs.Sides.{Small, Ready};
-ghost use Rattle.lines.specs.Lines.{sideAt, mostOf, Measured, widthOf, InLine, lineCount, order};
+ghost use Rattle.lines.specs.Sides.{Small, Ready, nodeCount};
+ghost use Rattle.lines.specs.Lines.{sideAt, mostOf, Measured, listWidth, widthOf, InLine, lineCount, order};
 
 pub mod generate; // generate.rt: the numbers of a line, one after the other
 pub mod sides; // sides.rt: bits and checks, their blocks and their degrees
 
 use exponent::Shape;
 use sides::Side;
+use tokens::Form;
 
 // The sizes of a plan, and the greatest degree of a bit and of a check.
 pub struct Layout {
@@ -43,16 +44,35 @@ pub fn most_of(l: Layout, side: Side) -> usize
     }
 }
 
+// How many numbers the list of a node has: in the unpadded form as many as its degree.
+fn list_width(
+    plan: &[i16],
+    down: &[u16],
+    along: &[u16],
+    l: Layout,
+    form: Form,
+    side: Side,
+    x: usize,
+) -> usize
+    requires { ⌜ Measured (now plan) l (now down) (now along) × (x < nodeCount (l .shape) side) ⌝ }
+    ensures { λ r. ⌜ r ≡ listWidth form (now (plan .entry)) l side x ⌝ }
+{
+    match form {
+        Form::Padded => most_of(l, side),
+        Form::Unpadded => sides::weight(plan, down, along, l.shape, side, x / l.shape.lift),
+    }
+}
+
 // How many numbers a line has.
-pub fn width(l: Layout, line: Line) -> usize
-    requires { ⌜ Small (l .shape) ⌝ }
-    ensures { λ r. ⌜ r ≡ widthOf l line ⌝ }
+pub fn width(plan: &[i16], down: &[u16], along: &[u16], l: Layout, form: Form, line: Line) -> usize
+    requires { ⌜ Measured (now plan) l (now down) (now along) × InLine l line ⌝ }
+    ensures { λ r. ⌜ r ≡ widthOf form (now (plan .entry)) l line ⌝ }
 {
     match line {
         Line::Sizes => 2,
         Line::Greatest => 2,
         Line::Degrees(side) => sides::node_count(l.shape, side),
-        Line::Node(side, _) => most_of(l, side),
+        Line::Node(side, x) => list_width(plan, down, along, l, form, side, x),
     }
 }
 

@@ -11,8 +11,8 @@ use Rattle.refusal.specs.Place.{firstPlace}
 use Rattle.square.specs.Table.{quads, suppliedTable}
 use Rattle.table.specs.Build.{tableRules, maskRules, buildRules}
 use Rattle.decimal.specs.Decimal.{digits, decimal}
-use Rattle.tokens.specs.Tokens.{blank, blanks, token, start, tokenAt}
-use Rattle.lines.specs.Alist.{linesOf}
+use Rattle.tokens.specs.Tokens.{blank, between, blanks, token, start, tokenAt}
+use Rattle.lines.specs.Alist.{linesIn}
 use Rattle.lines.specs.Text.{item, lineFrom, textOf}
 use Rattle.alist.specs.Calls.{alistText, writeRules}
 use Rattle.planning.specs.Request.{valueFrom, numberOf, requestIn, requestOf}
@@ -42,7 +42,7 @@ printed-ends none text e = e
 printed-ends (some r) text e = ends-after (114 ∷ 101 ∷ 102 ∷ 117 ∷ 115 ∷ 101 ∷ 100 ∷ 32 ∷ []) _ (ends-after (decimal (number r)) (10 ∷ []) (record { before = []; is = refl }))
 
 alist-ends : (plan : List ℤ) (rows cols lift : ℕ) → Ends (alistText plan rows cols lift)
-unfolding linesOf
+unfolding linesIn
 alist-ends plan rows cols lift = text-ends _ _
 
 pub output-ends : (input : List ℕ) (room : ℕ) (place : List ℕ) → Ends (output input room place)
@@ -55,5 +55,5 @@ output-ends input room place =
 
 -- the input "4 6" prints "refused 10", whatever is lent
 pub four-six : (room : ℕ) (place : List ℕ) → output (52 ∷ 32 ∷ 54 ∷ []) room place ≡ 114 ∷ 101 ∷ 102 ∷ 117 ∷ 115 ∷ 101 ∷ 100 ∷ 32 ∷ 49 ∷ 48 ∷ 10 ∷ []
-unfolding outputFor cyclicRules requestOf requestIn numberOf valueFrom firstPlace blank blanks token start tokenAt lowest buildRules tableRules maskRules quads suppliedTable refusedLine decimal digits
+unfolding outputFor cyclicRules requestOf requestIn numberOf valueFrom firstPlace blank between blanks token start tokenAt lowest buildRules tableRules maskRules quads suppliedTable refusedLine decimal digits
 four-six room place = refl

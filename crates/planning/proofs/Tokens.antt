@@ -11,6 +11,7 @@ use lib.Seq.{drop-cons}
 use borrow.Author.Tests.{lt-ltb, le-ltb}
 use Rattle.refusal.specs.Place.{firstPlace, somewhere}
 use Rattle.graph.proofs.Decide.{by-le}
+use Rattle.tokens.specs.declared.Form.the-variants.{Padded}
 use Rattle.tokens.specs.Tokens.{start, stop, tokenAt}
 use Rattle.tokens.proofs.Runs.{token-part}
 use Rattle.planning.specs.declared.request.Request.{Request}
@@ -93,18 +94,18 @@ module _ (token : List ℕ) (i n : ℕ) (e : numberFrom n (drop i token) ≡ num
     small-end g = sym (ap (λ (t : Bool). cond t 0 n) (le-ltb 65535 n g)) ∙ none-left
 
 -- the next token from a place on, from its first byte s and its end e
-module _ (text : List ℕ) (at s e n : ℕ) (p : s ≡ start text at) (q : e ≡ s + length (tokenAt text s)) where
-  pub next-stop : e ≡ stop text at
+module _ (text : List ℕ) (at s e n : ℕ) (p : s ≡ start Padded text at) (q : e ≡ s + length (tokenAt text s)) where
+  pub next-stop : e ≡ stop Padded text at
   next-stop = q ∙ ap (λ (k : ℕ). k + length (tokenAt text k)) p
 
-  pub next-number : n ≡ numberOf (take (e - s) (drop s text)) → n ≡ numberOf (tokenAt text (start text at))
+  pub next-number : n ≡ numberOf (take (e - s) (drop s text)) → n ≡ numberOf (tokenAt text (start Padded text at))
   next-number r = r ∙ ap numberOf (token-part text s e q) ∙ ap (λ (k : ℕ). numberOf (tokenAt text k)) p
 
-pub request-is : (text : List ℕ) (J P at : ℕ) → J ≡ numberOf (tokenAt text (start text 0)) → at ≡ stop text 0 → P ≡ numberOf (tokenAt text (start text at))
+pub request-is : (text : List ℕ) (J P at : ℕ) → J ≡ numberOf (tokenAt text (start Padded text 0)) → at ≡ stop Padded text 0 → P ≡ numberOf (tokenAt text (start Padded text at))
     → _≡_ {A = Request} (record { order = J; lift = P }) (requestIn text)
 unfolding requestIn
 request-is text J P at j s p =
-    let q : P ≡ numberOf (tokenAt text (start text (stop text 0))) = p ∙ ap (λ (k : ℕ). numberOf (tokenAt text (start text k))) s in
+    let q : P ≡ numberOf (tokenAt text (start Padded text (stop Padded text 0))) = p ∙ ap (λ (k : ℕ). numberOf (tokenAt text (start Padded text k))) s in
     λ i. record { order = j i; lift = q i }
 
 -- THE LAW: leading zeros do not change a number

@@ -6,6 +6,7 @@ use lib.Dec.{ltb}
 use lib.ListN.{take}
 use Rattle.refusal.specs.Place.{somewhere}
 use Rattle.exponent.specs.Limits.{outside}
+use Rattle.tokens.specs.declared.Form.the-variants.{Padded}
 use Rattle.tokens.specs.Tokens.{start, stop, tokenAt}
 use Rattle.planning.specs.declared.request.Request.{Request}
 
@@ -25,7 +26,7 @@ numberOf token = cond (somewhere noDigit token || ltb 65535 (valueFrom 0 token))
 
 -- the numbers of the first two tokens
 unfoldable pub requestIn : List ℕ → Request
-requestIn text = record { order = numberOf (tokenAt text (start text 0)); lift = numberOf (tokenAt text (start text (stop text 0))) }
+requestIn text = record { order = numberOf (tokenAt text (start Padded text 0)); lift = numberOf (tokenAt text (start Padded text (stop Padded text 0))) }
 
 unfoldable pub requestOf : List ℕ → Request
 requestOf input = requestIn (take 256 input)

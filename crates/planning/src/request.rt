@@ -1,4 +1,5 @@
 use crate::number;
+use tokens::Form;
 ghost use mathlib.Core.Path.{_≡_};
 ghost use Rattle.planning.specs.Request.{requestIn, requestOf};
 
@@ -12,10 +13,10 @@ pub struct Request {
 fn read_tokens(text: &[u8]) -> Request
     ensures { λ r. ⌜ r ≡ requestIn (now (text .entry)) ⌝ }
 {
-    let s = tokens::skip(text, 0);
+    let s = tokens::skip(text, Form::Padded, 0);
     let e = tokens::token_end(text, s);
     let order = number::read(&text[s..e]);
-    let t = tokens::skip(text, e);
+    let t = tokens::skip(text, Form::Padded, e);
     let f = tokens::token_end(text, t);
     let lift = number::read(&text[t..f]);
     Request { order, lift }

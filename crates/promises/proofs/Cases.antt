@@ -39,13 +39,14 @@ use Rattle.grid.specs.Plan.{columns, rows, tablePlan}
 use Rattle.table.specs.declared.Built.the-variants.{Built, Refused as NotBuilt}
 use Rattle.table.specs.Build.{tableRules, maskRules, buildRules, builtPlan}
 use Rattle.decimal.specs.Decimal.{digits, decimal}
-use Rattle.lines.specs.Alist.{degrees, greatest, fill, lists, linesOf}
+use Rattle.tokens.specs.Bytes.{bytes}
+use Rattle.lines.specs.Alist.{degrees, greatest, fill, lists, linesIn}
 use Rattle.lines.specs.Text.{item, lineFrom, textOf}
 use Rattle.alist.specs.Calls.{alistText}
 use Rattle.alist.proofs.FirstLine.{sizesLine, text-begins}
 use Rattle.planning.proofs.Outputs.{four-six}
 use Rattle.promises.specs.Two.{Passing}
-use Rattle.promises.specs.Cases.{Failing, FailingWith, pair, full, column, cyclicAnswer, cyclicPlan, bytes, BenchCases}
+use Rattle.promises.specs.Cases.{Failing, FailingWith, pair, full, column, cyclicAnswer, cyclicPlan, BenchCases}
 use Rattle.promises.proofs.Two.{verdict, passing-12}
 
 -- THE GIRTH TEST: what the model's answer is, every answer is
@@ -129,7 +130,7 @@ unfolding syndromeOf checkRules wordRules byteRules planRules lowest firstPlace 
 check-1-odd = refl
 
 pair-text : alistText pair 1 2 2 ≡ bytes "4 2\n1 2\n1 1 1 1\n2 2\n1\n2\n2\n1\n1 4\n2 3\n"
-unfolding textOf lineFrom item decimal digits linesOf lists degrees greatest fill bitsOf checksOf tanner select range blockAt entryAt
+unfolding textOf lineFrom item decimal digits linesIn lists degrees greatest fill bitsOf checksOf tanner select range blockAt entryAt
 pair-text = refl
 
 -- THE TABLE

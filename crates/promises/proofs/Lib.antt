@@ -3,7 +3,9 @@ pub mod Matching
 pub mod PlanRows
 pub mod TableRows
 pub mod WordRows
+pub mod Tokens
 pub mod TextRows
+pub mod Texts
 pub mod One
 pub mod Three
 pub mod Table

@@ -1,7 +1,5 @@
 -- The starred cases of document 01's "Bench cases", in its order: what the calls answer, as one table.
 use Prim.Native.Nat.{ℕ, _*_, _≤_}
-use Prim.Native.Char.{code}
-use Prim.Native.String.{String, [] as empty, _∷_ as _then_}
 use mathlib.Core.Path.{_≡_}
 use mathlib.Core.List.{List, [], _∷_}
 use mathlib.Core.Option.{none}
@@ -27,6 +25,7 @@ use Rattle.grid.specs.Plan.{columns}
 use Rattle.table.specs.declared.Built.{Built as BuiltAnswer}
 use Rattle.table.specs.declared.Built.the-variants.{Built, Refused as NotBuilt}
 use Rattle.table.specs.Build.{buildRules, builtPlan, built}
+use Rattle.tokens.specs.Bytes.{bytes}
 use Rattle.alist.specs.Calls.{alistText}
 use Rattle.planning.specs.Output.{output}
 use Rattle.promises.specs.TurnedAway.{RefusedWith}
@@ -55,11 +54,6 @@ cyclicPlan lift = builtPlan 4 lift (suppliedTable Cyclic 4) full
 
 abbrev pub column : ℕ → ℕ → ℕ → Column
 column a j r = record { a = a; j = j; r = r }
-
--- the bytes of a text
-abbrev pub bytes : String → List ℕ
-bytes empty = []
-bytes (c then s) = code c ∷ bytes s
 
 -- THE TABLE
 pub record BenchCases : Type 0 where

@@ -4,3 +4,4 @@ pub mod One
 pub mod Three
 pub mod Table
 pub mod Cases
+pub mod Texts

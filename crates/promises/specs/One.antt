@@ -30,8 +30,6 @@ use Rattle.table.specs.declared.Supplied.the-variants as supplied-answer
 use Rattle.table.specs.declared.Built.{Built}
 use Rattle.table.specs.declared.Built.the-variants as built-answer
 use Rattle.table.specs.Build.{lent, supplyRules, supplied, buildRules, builtPlan, built}
-use Rattle.lines.specs.Alist.{alist}
-use Rattle.lines.specs.Text.{numbersOf}
 use Rattle.alist.specs.declared.Written.{Written}
 use Rattle.alist.specs.declared.Written.the-variants as written-answer
 use Rattle.alist.specs.declared.Comparison.{Comparison}
@@ -112,5 +110,5 @@ pub record Promise-1 : Type 0 where
       LowestOf (PlanRow plan rows cols lift or RoomRow text place) answer × Unchanged answer place (laid refusal text place)
   -- 1 to 6, 21
   pub compare : (plan : List ℤ) (rows cols lift : ℕ) (text : List ℕ)
-      → LowestOf (PlanRow plan rows cols lift or TokenRow text (numbersOf (alist plan rows cols lift)))
+      → LowestOf (PlanRow plan rows cols lift or TokenRow text (tanner plan rows cols lift))
       (ofComparison (comparison (lowest (compareRules plan rows cols lift text))))

@@ -1,6 +1,6 @@
 -- The rows of "Turned away" (document 01), by who can cause them: when each number applies, and with which values. Each row stands here
 -- once; the refusals of a call are its rows together (One.antt). Places count from 0.
-use Prim.Native.Nat.{ℕ, _-_, _*_, _≤_, _<_}
+use Prim.Native.Nat.{ℕ, _+_, _-_, _*_, _≤_, _<_, max}
 use mathlib.Core.Path.{_≡_}
 use mathlib.Core.Logic.{_↔_, _⊎_, _≢_}
 use mathlib.Core.List.{List, [], _∷_}
@@ -16,6 +16,11 @@ use Rattle.square.specs.declared.search.Quad.{Quad}
 use Rattle.square.specs.Table.{tableAt, Repeat, Before}
 use Rattle.square.specs.Mask.{Common}
 use Rattle.decimal.specs.Decimal.{decimal}
+use Rattle.tokens.specs.declared.Form.{Form}
+use Rattle.tokens.specs.declared.Form.the-variants.{Padded, Unpadded}
+use Rattle.tokens.specs.Tokens.{Item, numeral, line-end}
+use Rattle.lines.specs.Alist.{linesIn}
+use Rattle.lines.specs.Text.{itemsOf}
 
 -- n is not from low to high
 abbrev pub Outside : ℕ → ℕ → ℕ → Type 0
@@ -84,41 +89,58 @@ pub data ErasureRow (word : List ℕ) : ℕ → List ℕ → Type 0 where
 pub data SolutionRow (G : Bipartite) (word : List ℕ) : ℕ → List ℕ → Type 0 where
   row-20 : ((v : List ℕ) → Solution G word v → ⊥) → SolutionRow G word 20 []
 
--- SENDER OF A TEXT. Tokens are runs of bytes other than these
+-- SENDER OF A TEXT. The bytes that no number holds
 pub data IsBlank : ℕ → Type 0 where
   tab : IsBlank 9
   line-feed : IsBlank 10
   carriage-return : IsBlank 13
   space : IsBlank 32
 
+-- what stands between tokens: these bytes, but in the unpadded form (document 02, slip 1) no line feed
+abbrev pub Between : Form → ℕ → Type 0
+Between Padded b = IsBlank b
+Between Unpadded b = IsBlank b × (b ≢ 10)
+
+-- the bytes from `first` to before `end` are a token: a whole run of other bytes; in the unpadded form a line feed is one, too
+pub data IsToken (text : List ℕ) (first : ℕ) : Form → ℕ → Type 0 where
+  run : (form : Form) (end : ℕ) → first < end → ((k : ℕ) → first ≤ k → k < end → IsBlank (getD text k 0) → ⊥) → (end < length text → IsBlank (getD text end 0))
+      → IsToken text first form end
+  feed : getD text first 0 ≡ 10 → IsToken text first Unpadded (first + 1)
+
 -- from the place `at` on, the next token has the bytes from `first` to before `end`
-pub record NextToken (text : List ℕ) (at first end : ℕ) : Type 0 where
+pub record NextToken (form : Form) (text : List ℕ) (at first end : ℕ) : Type 0 where
   pub onward : at ≤ first
-  pub blank-before : (k : ℕ) → at ≤ k → k < first → IsBlank (getD text k 0)
-  pub some-bytes : first < end
-  pub not-blank : (k : ℕ) → first ≤ k → k < end → IsBlank (getD text k 0) → ⊥
+  pub between : (k : ℕ) → at ≤ k → k < first → Between form (getD text k 0)
+  pub token : IsToken text first form end
   pub inside : end ≤ length text
-  pub whole : end < length text → IsBlank (getD text end 0)
 
 -- no token comes any more
-abbrev pub NoToken : List ℕ → ℕ → Type 0
-NoToken text at = (k : ℕ) → at ≤ k → k < length text → IsBlank (getD text k 0)
+abbrev pub NoToken : Form → List ℕ → ℕ → Type 0
+NoToken form text at = (k : ℕ) → at ≤ k → k < length text → Between form (getD text k 0)
 
--- the token is the number, in decimal without leading zeros
-abbrev pub Says : List ℕ → ℕ → ℕ → ℕ → Type 0
-Says text first end n = take (end - first) (drop first text) ≡ decimal n
+-- the token is what is expected: the number, in decimal without leading zeros, or a line feed
+abbrev pub bytesOf : Item → List ℕ
+bytesOf (numeral n) = decimal n
+bytesOf line-end = 10 ∷ []
 
--- from the place `at` on the numbers are expected: the first byte of the first wrong or extra token, or the text's length where it ends early
-pub data FirstWrong (text : List ℕ) : ℕ → List ℕ → ℕ → Type 0 where
-  wrong : (at first end n : ℕ) (ns : List ℕ) → NextToken text at first end → (Says text first end n → ⊥) → FirstWrong text at (n ∷ ns) first
-  extra : (at first end : ℕ) → NextToken text at first end → FirstWrong text at [] first
-  early : (at n : ℕ) (ns : List ℕ) → NoToken text at → FirstWrong text at (n ∷ ns) (length text)
-  go-on : (at first end n : ℕ) (ns : List ℕ) (place : ℕ) → NextToken text at first end → Says text first end n → FirstWrong text end ns place
-      → FirstWrong text at (n ∷ ns) place
+abbrev pub Says : List ℕ → ℕ → ℕ → Item → Type 0
+Says text first end x = take (end - first) (drop first text) ≡ bytesOf x
 
--- 21, for the numbers of the plan's alist
-pub data TokenRow (text numbers : List ℕ) : ℕ → List ℕ → Type 0 where
-  row-21 : (place : ℕ) → FirstWrong text 0 numbers place → TokenRow text numbers 21 (place ∷ [])
+-- from the place `at` on the items are expected: the first byte of the first wrong or extra token, or the text's length where it ends early
+pub data FirstWrong (form : Form) (text : List ℕ) : ℕ → List Item → ℕ → Type 0 where
+  wrong : (at first end : ℕ) (x : Item) (xs : List Item) → NextToken form text at first end → (Says text first end x → ⊥) → FirstWrong form text at (x ∷ xs) first
+  extra : (at first end : ℕ) → NextToken form text at first end → FirstWrong form text at [] first
+  early : (at : ℕ) (x : Item) (xs : List Item) → NoToken form text at → FirstWrong form text at (x ∷ xs) (length text)
+  go-on : (at first end : ℕ) (x : Item) (xs : List Item) (place : ℕ) → NextToken form text at first end → Says text first end x → FirstWrong form text end xs place
+      → FirstWrong form text at (x ∷ xs) place
+
+-- the place at which a text first departs from a form of the alist
+abbrev pub DepartsAt : Form → List ℕ → Bipartite → ℕ → Type 0
+DepartsAt form text G place = FirstWrong form text 0 (itemsOf form (linesIn form G)) place
+
+-- 21: the text departs from both forms, with the later of the two places
+pub data TokenRow (text : List ℕ) (G : Bipartite) : ℕ → List ℕ → Type 0 where
+  row-21 : (p q : ℕ) → DepartsAt Padded text G p → DepartsAt Unpadded text G q → TokenRow text G 21 (max p q ∷ [])
 
 -- ROWS TOGETHER, and the lowest number that applies.
 infixl 1 _or_

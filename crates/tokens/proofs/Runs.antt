@@ -7,35 +7,52 @@ use mathlib.Core.List.{List, [], _∷_, _++_}
 use native.Mathlib.Omega.{arith}
 use native.Mathlib.Numerals.{add-one}
 use lib.Dec.{eqb}
-use lib.ListN.{length, getD, take, drop, drop-of-length-le, length-drop}
+use lib.ListN.{length, getD, take, drop, drop-of-length-le, length-drop, List·getD-eq-default}
 use lib.Seq.{drop-cons, take-suc, take-length, length-take-le}
 use borrow.Author.Tests.{eqb-true, eq-eqb, ne-eqb}
 use Rattle.graph.proofs.Decide.{by-bool, both-ways}
 use Rattle.decimal.specs.Decimal.{digit, decimal}
 use Rattle.decimal.proofs.Digits.{decimal-small, decimal-step, decimal-ends}
 use Rattle.tokens.specs.declared.Step.the-variants.{Next, Wrong}
-use Rattle.tokens.specs.Tokens.{blank, blanks, token, tokenAt, start, same}
+use Rattle.tokens.specs.declared.Form.{Form}
+use Rattle.tokens.specs.declared.Form.the-variants.{Padded, Unpadded}
+use Rattle.tokens.specs.Tokens.{blank, between, blanks, token, tokenAt, start, same, numeral, line-end}
 use Rattle.tokens.specs.Steps.{expectAt}
 
 pub not-9-10-13 : (b : ℕ) → (b ≡ 9 → ⊥) → (b ≡ 10 → ⊥) → (b ≡ 13 → ⊥) → eqb b 32 ≡ blank b
 unfolding blank
 not-9-10-13 b p q r = rw (ne-eqb b 9 p, ne-eqb b 10 q, ne-eqb b 13 r)
 
+-- a line feed stands between tokens in the padded form alone; of other bytes the forms say the same
+pub feed-padded : (form : Form) (b : ℕ) → form ≡ Padded → b ≡ 10 → true ≡ between form b
+unfolding between blank
+feed-padded form b e h = rw (e, h)
+
+pub feed-unpadded : (form : Form) (b : ℕ) → form ≡ Unpadded → b ≡ 10 → false ≡ between form b
+unfolding between
+feed-unpadded form b e h = rw (e, h)
+
+pub no-feed : (form : Form) (b : ℕ) → (b ≡ 10 → ⊥) → blank b ≡ between form b
+unfolding between
+no-feed Padded b h = refl
+no-feed Unpadded b h = rw (ne-eqb b 10 h)
+
 -- where the next token starts
-module _ (text : List ℕ) (i : ℕ) where
-  pub start-end : length text ≤ i → start text i ≡ i
+module _ (form : Form) (text : List ℕ) (i : ℕ) where
+  pub start-end : length text ≤ i → start form text i ≡ i
   unfolding start blanks
   start-end h = rw (drop-of-length-le text h) (omega arith)
 
-  pub start-here : i < length text → blank (getD text i 0) ≡ false → start text i ≡ i
+  pub start-here : i < length text → between form (getD text i 0) ≡ false → start form text i ≡ i
   unfolding start blanks
   start-here h e = rw (drop-cons text i 0 h, e) (omega arith)
 
-  pub start-next : i < length text → blank (getD text i 0) ≡ true → start text (i + 1) ≡ start text i
+  pub start-next : i < length text → between form (getD text i 0) ≡ true → start form text (i + 1) ≡ start form text i
   unfolding start blanks
   start-next h e = rw (drop-cons text i 0 h, e, add-one i) (omega arith)
 
-  -- the token at a place
+-- the token at a place
+module _ (text : List ℕ) (i : ℕ) where
   pub token-end : length text ≤ i → tokenAt text i ≡ []
   unfolding tokenAt token
   token-end h = rw (drop-of-length-le text h)
@@ -48,18 +65,18 @@ module _ (text : List ℕ) (i : ℕ) where
   unfolding tokenAt token
   token-more h e = rw (drop-cons text i 0 h, e, add-one i)
 
-blanks-le : (xs : List ℕ) → blanks xs ≤ length xs
+blanks-le : (form : Form) (xs : List ℕ) → blanks form xs ≤ length xs
 unfolding blanks
-blanks-le [] = zero-le
-blanks-le (b ∷ bs) = go (blank b) (blanks-le bs)
+blanks-le form [] = zero-le
+blanks-le form (b ∷ bs) = go (between form b) (blanks-le form bs)
   where
-    go : (t : Bool) → blanks bs ≤ length bs → cond t (suc (blanks bs)) 0 ≤ suc (length bs)
+    go : (t : Bool) → blanks form bs ≤ length bs → cond t (suc (blanks form bs)) 0 ≤ suc (length bs)
     go true h = omega arith
     go false h = omega arith
 
-pub start-le : (text : List ℕ) (at : ℕ) → at ≤ length text → start text at ≤ length text
+pub start-le : (form : Form) (text : List ℕ) (at : ℕ) → at ≤ length text → start form text at ≤ length text
 unfolding start
-start-le text at h = omega (arith, blanks-le (drop at text), length-drop at text)
+start-le form text at h = omega (arith, blanks-le form (drop at text), length-drop at text)
 
 token-le : (xs : List ℕ) → length (token xs) ≤ length xs
 unfolding token
@@ -168,19 +185,32 @@ module _ (w : List ℕ) (n : ℕ) where
   number-more h e s = sym (by-last h (decimal (n / 10)) (decimal-step n s) ∙ ap (λ (t : Bool). cond t (same (take (length w - 1) w) (decimal (n / 10))) false) (eq-eqb _ _ e))
 
 -- what the next token is, from its first byte s, its end e and the comparison r
-module _ (text : List ℕ) (at n s e : ℕ) (r : Bool) (p : s ≡ start text at) (q : e ≡ s + length (tokenAt text s)) (c : r ≡ same (take (e - s) (drop s text)) (decimal n)) where
-  told : same (tokenAt text (start text at)) (decimal n) ≡ r
+module _ (form : Form) (text : List ℕ) (at n s e : ℕ) (r : Bool) (p : s ≡ start form text at) (q : e ≡ s + length (tokenAt text s)) (c : r ≡ same (take (e - s) (drop s text)) (decimal n)) where
+  told : same (tokenAt text (start form text at)) (decimal n) ≡ r
   told = ap (λ (k : ℕ). same (tokenAt text k) (decimal n)) (sym p) ∙ ap (λ (w : List ℕ). same w (decimal n)) (sym (token-part text s e q)) ∙ sym c
 
-  pub expect-right : r ≡ true → Next (record { at = e }) ≡ expectAt text at n
+  pub expect-right : r ≡ true → Next (record { at = e }) ≡ expectAt form text at (numeral n)
   unfolding expectAt
   expect-right h = rw (told, h) (ap (λ (k : ℕ). Next (record { at = k })) (q ∙ ap (λ (k : ℕ). k + length (tokenAt text k)) p))
 
-  pub expect-wrong : r ≡ false → Wrong s ≡ expectAt text at n
+  pub expect-wrong : r ≡ false → Wrong s ≡ expectAt form text at (numeral n)
   unfolding expectAt
   expect-wrong h = rw (told, h) (ap (λ (k : ℕ). Wrong k) p)
 
-pub token-in : (text : List ℕ) (at s e : ℕ) → s ≡ start text at → e ≡ s + length (tokenAt text s) → at ≤ length text → e ≤ length text
-token-in text at s e p q h =
-    let b : s ≤ length text = omega (arith, start-le text at h) in
+-- or a line feed, by the byte there
+module _ (form : Form) (text : List ℕ) (at s : ℕ) (p : s ≡ start form text at) where
+  pub feed-found : getD text s 0 ≡ 10 → Next (record { at = s + 1 }) ≡ expectAt form text at line-end
+  unfolding expectAt
+  feed-found h = rw (sym p, eq-eqb (getD text s 0) 10 h)
+
+  pub feed-missing : (getD text s 0 ≡ 10 → ⊥) → Wrong s ≡ expectAt form text at line-end
+  unfolding expectAt
+  feed-missing h = rw (sym p, ne-eqb (getD text s 0) 10 h)
+
+  pub feed-past : length text ≤ s → Wrong s ≡ expectAt form text at line-end
+  feed-past h = feed-missing (λ e. absurd (omega (arith, sym (List·getD-eq-default text 0 h) ∙ e)))
+
+pub token-in : (form : Form) (text : List ℕ) (at s e : ℕ) → s ≡ start form text at → e ≡ s + length (tokenAt text s) → at ≤ length text → e ≤ length text
+token-in form text at s e p q h =
+    let b : s ≤ length text = omega (arith, start-le form text at h) in
     omega (arith, tokenAt-le text s b)

@@ -1,2 +1,3 @@
 pub mod Tokens
 pub mod Steps
+pub mod Bytes

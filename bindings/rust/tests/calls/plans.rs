@@ -12,6 +12,11 @@ pub fn chain(rows: usize, cols: usize, lift: usize) -> OwnedPlan {
     plan_of(rows, cols, lift, |i, j| if i + 1 < cols && (j == i || j == i + 1) { 0 } else { -1 })
 }
 
+/// Row i has blocks in columns 2i and 2i + 1, the last row in one column alone: the last lists of its alist alone are short.
+pub fn pairs() -> OwnedPlan {
+    plan_of(192, 383, 171, |i, j| if j / 2 == i { 170 } else { -1 })
+}
+
 /// All blocks are filled.
 pub fn full(lift: usize) -> OwnedPlan {
     plan_of(192, 512, lift, |_, _| lift as i16 - 1)

@@ -1,7 +1,7 @@
 //! The writer and the comparer of alist text on the largest plans.
-use super::plans::{chain, largest, turned_away};
-use super::{expect, refusal, Call};
-use qcldpc::OwnedPlan;
+use super::plans::{chain, largest, pairs, turned_away};
+use super::{expect, refusal, tables, Call};
+use qcldpc::{OwnedPlan, Refusal};
 
 // The bytes of a place before a text is written there.
 const BEFORE: u8 = b'x';
@@ -49,22 +49,59 @@ pub fn write_refused() -> Vec<Call> {
     calls
 }
 
-pub fn compare() -> Vec<Call> {
-    let agrees = |plan: OwnedPlan| {
-        let text = text(&plan);
-        expect(move || qcldpc::alist_compare(&plan.lent(), &text), Ok(()))
+// A padded text without its filling zeros: after line 4 no other number is 0.
+fn unpadded(text: &[u8]) -> Vec<u8> {
+    let without = |(k, line): (usize, &str)| {
+        let numbers = line.split(' ').filter(|&number| k < 4 || number != "0");
+        numbers.collect::<Vec<_>>().join(" ") + "\n"
     };
-    largest().map(agrees).into()
+    let text = std::str::from_utf8(text).expect("digits and blanks");
+    text.lines().enumerate().map(without).collect::<String>().into_bytes()
+}
+
+// The comparer of a text, held to its answer.
+fn compares(plan: &OwnedPlan, text: Vec<u8>, wanted: Result<(), Refusal>) -> Call {
+    let plan = plan.clone();
+    expect(move || qcldpc::alist_compare(&plan.lent(), &text), wanted)
+}
+
+/// In both forms.
+pub fn compare() -> Vec<Call> {
+    let both = |plan: &OwnedPlan| {
+        let padded = text(plan);
+        let unpadded = unpadded(&padded);
+        [padded, unpadded].map(|text| compares(plan, text, Ok(())))
+    };
+    largest().iter().chain([&pairs()]).flat_map(both).collect()
+}
+
+// Texts with the place that their refusal shows: the later one. Most agree with one form, or with both, nearly to their end.
+fn departing() -> Vec<(OwnedPlan, Vec<u8>, usize)> {
+    let mut all = vec![];
+    let mut add = |plan: &OwnedPlan, text: &[u8], end: &[u8], place| all.push((plan.clone(), [text, end].concat(), place));
+    for plan in [chain(192, 512, 128), pairs()] {
+        let padded = text(&plan);
+        let unpadded = unpadded(&padded);
+        let (n, m) = (padded.len(), unpadded.len());
+        add(&plan, b"", b"", 0);
+        add(&plan, &padded, b"0", n);
+        add(&plan, &unpadded, b"\n", m);
+        add(&plan, &unpadded[..m - 1], b"", m - 1);
+        add(&plan, &unpadded[..m - 1], b" 0\n", m);
+    }
+    let plan = chain(192, 512, 128);
+    let padded = text(&plan);
+    add(&plan, &padded[..padded.len() - 2], b"", padded.len() - 6);
+    // No list is short.
+    let plan = tables::largest_plan();
+    let padded = text(&plan);
+    add(&plan, &padded[..padded.len() - 1], b" \t1", padded.len() + 1);
+    all
 }
 
 pub fn compare_refused() -> Vec<Call> {
     let mut calls = turned_away(|plan| qcldpc::alist_compare(&plan.lent(), b"65536 24576\n"));
-    let plan = chain(192, 512, 128);
-    let text = text(&plan);
-    let n = text.len();
-    for (text, place) in [(vec![], 0), ([&text[..], b"0"].concat(), n), (text[..n - 2].to_vec(), n - 6)] {
-        let plan = plan.clone();
-        calls.push(expect(move || qcldpc::alist_compare(&plan.lent(), &text), Err(refusal(21, &[place as u64]))));
-    }
+    let refused = |(plan, text, place)| compares(&plan, text, Err(refusal(21, &[place as u64])));
+    calls.extend(departing().into_iter().map(refused));
     calls
 }

@@ -31,6 +31,32 @@ pub fn column_plan(random: &Random, rows: usize, cols: usize, lift: usize, weigh
     OwnedPlan { entries, rows, cols, lift }
 }
 
+/// A small plan with an empty row and an empty column beside filled blocks.
+pub fn holed_plan(random: &Random) -> OwnedPlan {
+    let (rows, cols, density) = (random.between(2, 5), random.between(2, 6), random.between(3, 8));
+    let lift = random.choice(&[1, 1, 2, 3, random.between(4, 12)]);
+    let mut plan = plan_of(random, rows, cols, lift, density);
+    let (rows, cols) = (random.distinct(2, rows), random.distinct(2, cols));
+    plan.entries[rows[1] * plan.cols + cols[1]] = 0;
+    for (k, entry) in plan.entries.iter_mut().enumerate() {
+        if k / plan.cols == rows[0] || k % plan.cols == cols[0] {
+            *entry = -1;
+        }
+    }
+    plan
+}
+
+/// A small plan with as many filled blocks in each row and in each column: none of its lists is short. Some have no block.
+pub fn regular_plan(random: &Random) -> OwnedPlan {
+    let (size, lift) = (random.between(1, 5), random.choice(&[1, 2, random.between(1, 12)]));
+    let weight = random.between(0, size);
+    let entry = |k| match (k / size + k % size) % size < weight {
+        true => random.below(lift) as i16,
+        false => -1,
+    };
+    OwnedPlan { entries: (0..size * size).map(entry).collect(), rows: size, cols: size, lift }
+}
+
 /// Plans at the limits of rows, columns, lift and bits.
 pub fn limit_plans(random: &Random) -> Vec<OwnedPlan> {
     vec![

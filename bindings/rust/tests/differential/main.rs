@@ -11,6 +11,7 @@ mod random;
 mod reference;
 mod seen;
 mod tables;
+mod texts;
 mod words;
 
 use seen::Seen;

@@ -1,4 +1,5 @@
 //! Which answers a subject's inputs have met.
+use crate::reference::alist::Departures;
 use std::fmt;
 
 #[derive(Clone, Default)]
@@ -25,5 +26,55 @@ impl fmt::Display for Seen {
         write!(f, "{} results", self.results)?;
         let met = (1..22).filter(|&n| self.refusals[n] > 0);
         met.into_iter().try_for_each(|n| write!(f, ", {} of refusal {n}", self.refusals[n]))
+    }
+}
+
+/// How many texts agreed with which forms of an alist, and how many departed from both, in which form later.
+#[derive(Default)]
+pub struct SeenForms {
+    both: usize,
+    padded_alone: usize,
+    unpadded_alone: usize,
+    neither_padded_later: usize,
+    neither_unpadded_later: usize,
+    neither_same_place: usize,
+}
+
+impl SeenForms {
+    pub fn note(&mut self, departures: &Departures) {
+        let count = match (departures.padded, departures.unpadded) {
+            (None, None) => &mut self.both,
+            (None, Some(_)) => &mut self.padded_alone,
+            (Some(_), None) => &mut self.unpadded_alone,
+            (Some(padded), Some(unpadded)) if padded > unpadded => &mut self.neither_padded_later,
+            (Some(padded), Some(unpadded)) if padded < unpadded => &mut self.neither_unpadded_later,
+            (Some(_), Some(_)) => &mut self.neither_same_place,
+        };
+        *count += 1;
+    }
+
+    // Each count with its name.
+    fn counts(&self) -> [(&str, usize); 6] {
+        [
+            ("with both forms", self.both),
+            ("with the padded form alone", self.padded_alone),
+            ("with the unpadded form alone", self.unpadded_alone),
+            ("with neither, the padded place later", self.neither_padded_later),
+            ("with neither, the unpadded place later", self.neither_unpadded_later),
+            ("with neither, both at one place", self.neither_same_place),
+        ]
+    }
+
+    /// The least count and its name.
+    pub fn rarest(&self) -> (&str, usize) {
+        self.counts().into_iter().min_by_key(|count| count.1).unwrap()
+    }
+}
+
+impl fmt::Display for SeenForms {
+    fn fmt(&self, f: &mut fmt::Formatter) -> fmt::Result {
+        let texts: usize = self.counts().iter().map(|count| count.1).sum();
+        write!(f, "{texts} texts")?;
+        self.counts().iter().try_for_each(|(name, count)| write!(f, ", {count} {name}"))
     }
 }

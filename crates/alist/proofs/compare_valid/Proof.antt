@@ -2,9 +2,7 @@
 use mathlib.Core.Path.{sym, _∙_}
 use borrow.Author.Needs.{needs}
 use Rattle.exponent.specs.Tanner.{graphOf}
-use Rattle.tokens.specs.Tokens.{mismatch}
-use Rattle.lines.specs.Alist.{linesOf}
-use Rattle.lines.specs.Text.{numbersOf}
+use Rattle.comparer.specs.Verdict.{departs}
 use Rattle.alist.proofs.Answers.{verdict-same, verdict-differs}
 use Rattle.alist.proofs.compare_valid.Statement.{statement}
 use Rattle.alist.proofs.compare_valid.Tie as tie
@@ -21,12 +19,12 @@ enum-known-p c = search needs
 returns : tie.Need-returns
 returns c =
     let a = c .before .before .before .before .args in
-    verdict-same (mismatch (a .text .now) 0 (numbersOf (linesOf (graphOf (a .plan .now) (a .s))))) (sym (c .before .before .compare .ensures) ∙ c .enum-told .given .1)
+    verdict-same (departs (a .text .now) (graphOf (a .plan .now) (a .s))) (sym (c .before .before .compare .ensures) ∙ c .enum-told .given .1)
 
 returns-2 : tie.Need-returns-2
 returns-2 c =
     let a = c .before .before .before .before .before .args in
-    verdict-differs (mismatch (a .text .now) 0 (numbersOf (linesOf (graphOf (a .plan .now) (a .s))))) _ (sym (c .before .before .before .compare .ensures) ∙ c .before .p .given .1)
+    verdict-differs (departs (a .text .now) (graphOf (a .plan .now) (a .s))) _ (sym (c .before .before .before .compare .ensures) ∙ c .before .p .given .1)
 
 pub compare-valid-spec : {M : Type 1} → statement M
 compare-valid-spec =

@@ -5,7 +5,7 @@ use Rattle.exponent.specs.declared.Shape.{Shape}
 use Rattle.exponent.specs.Tanner.{graphOf}
 use Rattle.index.proofs.Skips.{index-made, index-kept, to-build}
 use Rattle.tokens.specs.Tokens.{mismatch}
-use Rattle.lines.specs.Text.{numbersOf}
+use Rattle.lines.specs.Text.{itemsOf}
 use Rattle.comparer.specs.Verdict.{verdict}
 use Rattle.comparer.specs.Later.{laterLines}
 use Rattle.comparer.proofs.compare_from.Statement.{statement}
@@ -42,7 +42,7 @@ returns : tie.Need-returns
 returns c =
     let m = c .before .before .before in
     let a = m .before .before .before .before .before .before .before .before .before .args in
-    c .compare-lines .ensures ∙ ap (λ (s : Shape). verdict (mismatch (a .text .now) (a .c .at) (numbersOf (laterLines (graphOf (a .plan .now) s))))) (m .measure .ensures .0)
+    c .compare-lines .ensures ∙ ap (λ (s : Shape). verdict (mismatch (a .form) (a .text .now) (a .c .at) (itemsOf (a .form) (laterLines (a .form) (graphOf (a .plan .now) s))))) (m .measure .ensures .0)
 
 pub compare-from-spec : {M : Type 1} → statement M
 compare-from-spec =

@@ -11,8 +11,8 @@ use Rattle.tokens.specs.Tokens.{mismatch}
 use Rattle.tokens.proofs.Reading.{line-le}
 use Rattle.lines.specs.declared.sides.Side.the-variants.{Bits, Checks}
 use Rattle.lines.specs.Sides.{Small}
-use Rattle.lines.specs.Lines.{lineOf}
-use Rattle.lines.specs.Text.{numbersOf}
+use Rattle.lines.specs.Lines.{lineIn}
+use Rattle.lines.specs.Text.{itemsOf}
 use Rattle.lines.proofs.Lanes.{small, nodes-few}
 use Rattle.lines.proofs.Rest.{linesFrom, lines-next, lines-end}
 use Rattle.comparer.specs.Verdict.{verdict}
@@ -22,26 +22,26 @@ use Rattle.comparer.proofs.compare_lines.Statement.{statement}
 use Rattle.comparer.proofs.compare_lines.Tie as tie
 
 abbrev Inv-loop : tie.InvT-loop
-Inv-loop text plan down along l count at₀ i₀ at i =
-    (at ≤ length text) × (mismatch text at₀ (numbersOf (laterLines (graphOf plan (l .shape)))) ≡ mismatch text at (numbersOf (linesFrom plan (l .shape) i)))
+Inv-loop text form plan down along l count at₀ i₀ at i =
+    (at ≤ length text) × (mismatch form text at₀ (itemsOf form (laterLines form (graphOf plan (l .shape)))) ≡ mismatch form text at (itemsOf form (linesFrom form plan (l .shape) i)))
 
 abbrev μ-loop : tie.MeasureT-loop
-μ-loop text plan down along l count at₀ i₀ at i = count - i
+μ-loop text form plan down along l count at₀ i₀ at i = count - i
 
 -- the line that a turn reads
 next : (c : tie.After-line-at Inv-loop μ-loop) → let a = c .before .before .before .before .before .before .before .args in
-    linesFrom (a .plan .now) (a .l .shape) (c .before .before .loop .i)
-    ≡ lineOf (graphOf (a .plan .now) (a .l .shape)) (c .line-at .result) ∷ linesFrom (a .plan .now) (a .l .shape) (c .before .before .loop .i + 1)
+    linesFrom (a .form) (a .plan .now) (a .l .shape) (c .before .before .loop .i)
+    ≡ lineIn (a .form) (graphOf (a .plan .now) (a .l .shape)) (c .line-at .result) ∷ linesFrom (a .form) (a .plan .now) (a .l .shape) (c .before .before .loop .i + 1)
 next c =
     let a = c .before .before .before .before .before .before .before .args in
-    lines-next (a .plan .now) (a .l .shape) _ _ (rw (c .before .before .before .line-count .ensures) at (c .before .loop-test .taken)) (c .line-at .ensures .0)
+    lines-next (a .form) (a .plan .now) (a .l .shape) _ _ (rw (c .before .before .before .line-count .ensures) at (c .before .loop-test .taken)) (c .line-at .ensures .0)
 
 -- past the last line none is left
 past : (c : tie.After-loop Inv-loop μ-loop) → let a = c .before .before .before .before .before .before .args in
-    linesFrom (a .plan .now) (a .l .shape) (c .before .loop .i) ≡ []
+    linesFrom (a .form) (a .plan .now) (a .l .shape) (c .before .loop .i) ≡ []
 past c =
     let a = c .before .before .before .before .before .before .args in
-    lines-end (a .plan .now) (a .l .shape) _ (rw (c .before .before .line-count .ensures) at (c .loop-test .left))
+    lines-end (a .form) (a .plan .now) (a .l .shape) _ (rw (c .before .before .line-count .ensures) at (c .loop-test .left))
 
 line-count-requires : tie.Need-line-count-requires Inv-loop μ-loop
 line-count-requires c κs = let t = c .before .before .before in small _ (t .args .l .shape) (t .pre .0 .ready .well)
@@ -49,7 +49,7 @@ line-count-requires c κs = let t = c .before .before .before in small _ (t .arg
 loop-holds : tie.Need-loop-holds Inv-loop μ-loop
 loop-holds c =
     let t = c .before .before .before .before in
-    (t .pre .1, ap (λ (ls : List (List ℕ)). mismatch (t .args .text .now) (t .args .c .at) (numbersOf ls)) (sym (lines-later (t .args .plan .now) (t .args .l .shape))))
+    (t .pre .1, ap (λ (ls : List (List ℕ)). mismatch (t .args .form) (t .args .text .now) (t .args .c .at) (itemsOf (t .args .form) ls)) (sym (lines-later (t .args .form) (t .args .plan .now) (t .args .l .shape))))
 
 line-at-requires : tie.Need-line-at-requires Inv-loop μ-loop
 line-at-requires c κs =
@@ -68,7 +68,7 @@ enum-known-p c = search needs
 returns : tie.Need-returns Inv-loop μ-loop
 returns c =
     let f = c .before .before .before in
-    sym (ap verdict (f .before .before .before .loop .inv .1 ∙ line-wrong _ _ _ _ (f .expect-line .ensures) _ _ (next (f .before)) _ (c .before .p .given .1)))
+    sym (ap verdict (f .before .before .before .loop .inv .1 ∙ line-wrong _ _ _ _ _ (f .expect-line .ensures) _ _ (next (f .before)) _ (c .before .p .given .1)))
 
 add-i : tie.Need-add-i Inv-loop μ-loop
 add-i c =
@@ -84,8 +84,8 @@ loop-again : tie.Need-loop-again Inv-loop μ-loop
 loop-again c =
     let f = c .before .before .before in
     let v = f .before .before .before .loop .inv in (
-      line-le _ _ _ _ (f .expect-line .ensures) _ (c .before .next .given .1) (v .0),
-      v .1 ∙ line-right _ _ _ _ (f .expect-line .ensures) _ _ (next (f .before)) _ (c .before .next .given .1),
+      line-le _ _ _ _ _ (f .expect-line .ensures) _ (c .before .next .given .1) (v .0),
+      v .1 ∙ line-right _ _ _ _ _ (f .expect-line .ensures) _ _ (next (f .before)) _ (c .before .next .given .1),
     )
 
 skip-requires : tie.Need-skip-requires Inv-loop μ-loop
@@ -94,12 +94,12 @@ skip-requires c κs = search needs
 returns-2 : tie.Need-returns-2 Inv-loop μ-loop
 returns-2 c =
     let e = c .before .before in
-    sym (ap verdict (e .before .loop .inv .1 ∙ extra _ _ _ (c .before .skip .ensures) _ (past e) (c .if1 .taken)))
+    sym (ap verdict (e .before .loop .inv .1 ∙ extra _ _ _ _ (c .before .skip .ensures) _ (past e) (c .if1 .taken)))
 
 returns-3 : tie.Need-returns-3 Inv-loop μ-loop
 returns-3 c =
     let e = c .before .before in
-    sym (ap verdict (e .before .loop .inv .1 ∙ agrees _ _ _ (c .before .skip .ensures) _ (past e) (c .if1 .left)))
+    sym (ap verdict (e .before .loop .inv .1 ∙ agrees _ _ _ _ (c .before .skip .ensures) _ (past e) (c .if1 .left)))
 
 pub compare-lines-spec : {M : Type 1} → statement M
 compare-lines-spec =

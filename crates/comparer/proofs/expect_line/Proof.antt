@@ -1,84 +1,21 @@
--- `comparer::expect_line` meets its contract. The loop's invariant: the line reads as what is left of it, from the place that reading has come to.
--- The measure is how many numbers are left. Assumes nothing.
-use Prim.Native.Nat.{_-_, _≤_}
-use mathlib.Core.Path.{_≡_, sym, ap, _∙_}
-use lib.ListN.{length}
+-- `comparer::expect_line` meets its contract. Assumes nothing.
 use borrow.Author.Needs.{needs}
 use Rattle.exponent.specs.Tanner.{graphOf}
-use Rattle.tokens.specs.Steps.{readLine}
-use Rattle.tokens.proofs.Reading.{expect-le, read-next, read-wrong, read-end}
-use Rattle.lines.specs.Lines.{lineOf, lineRest, Carried}
-use Rattle.lines.proofs.Lanes.{small}
-use Rattle.lines.proofs.Rest.{line-start, line-end, carried-start}
+use Rattle.lines.specs.Lines.{lineIn}
+use Rattle.comparer.proofs.Reading.{line-read}
 use Rattle.comparer.proofs.expect_line.Statement.{statement}
 use Rattle.comparer.proofs.expect_line.Tie as tie
 
-abbrev Inv-loop : tie.InvT-loop
-Inv-loop text plan down along l line w at₀ k₀ from₀ at k from =
-    (at ≤ length text) × (readLine text at₀ (lineOf (graphOf plan (l .shape)) line) ≡ readLine text at (lineRest plan l line k from)) × Carried plan l line k from
+expect-numbers-requires : tie.Need-expect-numbers-requires
+expect-numbers-requires c κs = search needs
 
-abbrev μ-loop : tie.MeasureT-loop
-μ-loop text plan down along l line w at₀ k₀ from₀ at k from = w - k
+end-line-requires : tie.Need-end-line-requires
+end-line-requires c κs = search needs
 
-width-requires : tie.Need-width-requires Inv-loop μ-loop
-width-requires c κs = let t = c .before .before .before in small _ (t .args .l .shape) (t .pre .0 .ready .well)
-
-loop-holds : tie.Need-loop-holds Inv-loop μ-loop
-loop-holds c =
-    let t = c .before .before .before .before in
-    (t .pre .2, ap (readLine (t .args .text .now) (t .args .c .at)) (sym (line-start (t .args .plan .now) (t .args .l) _ _ (t .pre .0) (t .args .line))), carried-start (t .args .plan .now) (t .args .l) (t .args .line) (t .pre .0 .ready .well .some-lift))
-
-number-at-requires : tie.Need-number-at-requires Inv-loop μ-loop
-number-at-requires c κs = let t = c .before .before .before .before .before .before in (t .pre .0, t .pre .1, rw (c .before .before .width .ensures) at (c .loop-test .taken), c .before .loop .inv .2)
-
-expect-number-requires : tie.Need-expect-number-requires Inv-loop μ-loop
-expect-number-requires c κs = search needs
-
-enum-known-next : tie.Need-enum-known-next Inv-loop μ-loop
-enum-known-next c = search needs
-
-enum-known-p : tie.Need-enum-known-p Inv-loop μ-loop
-enum-known-p c = search needs
-
-returns : tie.Need-returns Inv-loop μ-loop
+returns : tie.Need-returns
 returns c =
-    let f = c .before .before .before in
-    sym (f .before .before .before .loop .inv .1 ∙ read-wrong _ _ _ _ (f .expect-number .ensures) _ _ (f .before .number-at .ensures .0) _ (c .before .p .given .1))
-
-add-k : tie.Need-add-k Inv-loop μ-loop
-add-k c = search needs
-
-loop-less : tie.Need-loop-less Inv-loop μ-loop
-loop-less c = search needs
-
-loop-again : tie.Need-loop-again Inv-loop μ-loop
-loop-again c =
-    let f = c .before .before .before in
-    let v = f .before .before .before .loop .inv in (
-      expect-le _ _ _ _ (f .expect-number .ensures) _ (c .before .next .given .1) (v .0),
-      v .1 ∙ read-next _ _ _ _ (f .expect-number .ensures) _ _ (f .before .number-at .ensures .0) _ (c .before .next .given .1),
-      f .before .number-at .ensures .1,
-    )
-
-returns-2 : tie.Need-returns-2 Inv-loop μ-loop
-returns-2 c =
-    let t = c .before .before .before .before .before .before in
-    sym (c .before .loop .inv .1 ∙ read-end _ _ _ (line-end _ _ _ _ (t .pre .0) _ _ _ (rw (c .before .before .width .ensures) at (c .loop-test .left))))
+    let a = c .before .before .before .before .before .args in
+    line-read _ _ _ (lineIn (a .form) (graphOf (a .plan .now) (a .l .shape)) (a .line)) _ _ (c .before .expect-numbers .ensures) (c .end-line .ensures)
 
 pub expect-line-spec : {M : Type 1} → statement M
-expect-line-spec =
-    tie.close
-    (tie.spec
-    Inv-loop
-    μ-loop
-    width-requires
-    loop-holds
-    number-at-requires
-    expect-number-requires
-    enum-known-next
-    enum-known-p
-    returns
-    add-k
-    loop-less
-    loop-again
-    returns-2)
+expect-line-spec = tie.close (tie.spec expect-numbers-requires end-line-requires returns)

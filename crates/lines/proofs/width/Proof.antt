@@ -1,9 +1,16 @@
 -- `lines::width` meets its contract. Assumes nothing.
+use Prim.Native.Nat.{ℕ}
 use mathlib.Core.Path.{sym, ap, _∙_}
 use borrow.Author.Needs.{needs}
+use Rattle.lines.specs.declared.Line.{Line}
 use Rattle.lines.specs.Lines.{widthOf}
+use Rattle.lines.proofs.Lanes.{small}
 use Rattle.lines.proofs.width.Statement.{statement}
 use Rattle.lines.proofs.width.Tie as tie
+
+-- how many numbers a line has, where the function is called
+abbrev wide : tie.Start → Line → ℕ
+wide t = widthOf (t .args .form) (t .args .plan .now) (t .args .l)
 
 enum-told : tie.Need-enum-told
 enum-told c = search needs
@@ -15,25 +22,29 @@ enum-known-line : tie.Need-enum-known-line
 enum-known-line c = search needs
 
 node-count-requires : tie.Need-node-count-requires
-node-count-requires c κs = search needs
+node-count-requires c κs =
+    let t = c .before .before .before .before .before in
+    small _ (t .args .l .shape) (t .pre .0 .ready .well)
 
 enum-known-line-2 : tie.Need-enum-known-line-2
 enum-known-line-2 c = search needs
 
-most-of-requires : tie.Need-most-of-requires
-most-of-requires c κs = search needs
+list-width-requires : tie.Need-list-width-requires
+list-width-requires c κs =
+    let t = c .before .before .before .before .before in
+    (t .pre .0, rw (c .before .line2 .given .1) at (t .pre .1))
 
 returns : tie.Need-returns
-returns c = search needs
+returns c = sym (ap (wide (c .before .before .before .before)) (c .enum-told .given .1))
 
 returns-2 : tie.Need-returns-2
-returns-2 c = search needs
+returns-2 c = sym (ap (wide (c .before .before .before .before)) (c .enum-told2 .given .1))
 
 returns-3 : tie.Need-returns-3
-returns-3 c = c .node-count .ensures ∙ sym (ap (widthOf (c .before .before .before .before .args .l)) (c .before .before .line .given .1))
+returns-3 c = c .node-count .ensures ∙ sym (ap (wide (c .before .before .before .before .before .before)) (c .before .before .line .given .1))
 
 returns-4 : tie.Need-returns-4
-returns-4 c = c .most-of .ensures ∙ sym (ap (widthOf (c .before .before .before .before .args .l)) (c .before .before .line2 .given .1))
+returns-4 c = c .list-width .ensures ∙ sym (ap (wide (c .before .before .before .before .before .before)) (c .before .before .line2 .given .1))
 
 pub width-spec : {M : Type 1} → statement M
 width-spec =
@@ -44,7 +55,7 @@ width-spec =
     enum-known-line
     node-count-requires
     enum-known-line-2
-    most-of-requires
+    list-width-requires
     returns
     returns-2
     returns-3

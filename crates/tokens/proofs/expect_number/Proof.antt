@@ -18,16 +18,16 @@ part-is-number-start : tie.Need-part-is-number-start
 part-is-number-start c = search needs
 
 part-is-number-end : tie.Need-part-is-number-end
-part-is-number-end c = omega (arith, token-in _ _ _ _ (c .before .skip .ensures) (c .token-end .ensures) (c .before .before .before .pre))
+part-is-number-end c = omega (arith, token-in _ _ _ _ _ (c .before .skip .ensures) (c .token-end .ensures) (c .before .before .before .pre))
 
 is-number-requires : tie.Need-is-number-requires
 is-number-requires c κs = search needs
 
 returns : tie.Need-returns
-returns c = expect-right _ _ _ _ _ _ (c .before .before .before .before .skip .ensures) (c .before .before .before .token-end .ensures) (c .before .is-number .ensures) (c .if1 .taken)
+returns c = expect-right _ _ _ _ _ _ _ (c .before .before .before .before .skip .ensures) (c .before .before .before .token-end .ensures) (c .before .is-number .ensures) (c .if1 .taken)
 
 returns-2 : tie.Need-returns-2
-returns-2 c = expect-wrong _ _ _ _ _ _ (c .before .before .before .before .skip .ensures) (c .before .before .before .token-end .ensures) (c .before .is-number .ensures) (c .if1 .left)
+returns-2 c = expect-wrong _ _ _ _ _ _ _ (c .before .before .before .before .skip .ensures) (c .before .before .before .token-end .ensures) (c .before .is-number .ensures) (c .if1 .left)
 
 pub expect-number-spec : {M : Type 1} → statement M
 expect-number-spec =

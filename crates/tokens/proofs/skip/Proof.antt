@@ -10,19 +10,19 @@ use Rattle.tokens.proofs.skip.Statement.{statement}
 use Rattle.tokens.proofs.skip.Tie as tie
 
 abbrev Inv-loop : tie.InvT-loop
-Inv-loop text at i₀ i = start text i ≡ start text at
+Inv-loop text form at i₀ i = start form text i ≡ start form text at
 
 abbrev μ-loop : tie.MeasureT-loop
-μ-loop text at i₀ i = length text - i
+μ-loop text form at i₀ i = length text - i
 
 loop-holds : tie.Need-loop-holds Inv-loop μ-loop
 loop-holds c = refl
 
-shared-slice-read-is-blank : tie.Need-shared-slice-read-is-blank Inv-loop μ-loop
-shared-slice-read-is-blank c = search needs
+shared-slice-read-is-between : tie.Need-shared-slice-read-is-between Inv-loop μ-loop
+shared-slice-read-is-between c = search needs
 
-is-blank-requires : tie.Need-is-blank-requires Inv-loop μ-loop
-is-blank-requires c κs = tt
+is-between-requires : tie.Need-is-between-requires Inv-loop μ-loop
+is-between-requires c κs = tt
 
 add-i : tie.Need-add-i Inv-loop μ-loop
 add-i c = search needs
@@ -33,15 +33,15 @@ loop-less c = search needs
 loop-again : tie.Need-loop-again Inv-loop μ-loop
 loop-again c =
     let l = c .before .before .before .before in
-    start-next (l .before .before .args .text .now) (l .loop .i) (c .before .before .before .loop-test .taken) (sym (c .before .is-blank .ensures) ∙ c .if1 .taken) ∙ l .loop .inv
+    start-next (l .before .before .args .form) (l .before .before .args .text .now) (l .loop .i) (c .before .before .before .loop-test .taken) (sym (c .before .is-between .ensures) ∙ c .if1 .taken) ∙ l .loop .inv
 
 returns : tie.Need-returns Inv-loop μ-loop
 returns c =
     let l = c .before .before .before .before in
-    sym (start-here (l .before .before .args .text .now) (l .loop .i) (c .before .before .before .loop-test .taken) (sym (c .before .is-blank .ensures) ∙ c .if1 .left)) ∙ l .loop .inv
+    sym (start-here (l .before .before .args .form) (l .before .before .args .text .now) (l .loop .i) (c .before .before .before .loop-test .taken) (sym (c .before .is-between .ensures) ∙ c .if1 .left)) ∙ l .loop .inv
 
 returns-2 : tie.Need-returns-2 Inv-loop μ-loop
-returns-2 c = sym (start-end _ _ (c .loop-test .left)) ∙ c .before .loop .inv
+returns-2 c = sym (start-end _ _ _ (c .loop-test .left)) ∙ c .before .loop .inv
 
 pub skip-spec : {M : Type 1} → statement M
 skip-spec =
@@ -50,8 +50,8 @@ skip-spec =
     Inv-loop
     μ-loop
     loop-holds
-    shared-slice-read-is-blank
-    is-blank-requires
+    shared-slice-read-is-between
+    is-between-requires
     add-i
     loop-less
     loop-again

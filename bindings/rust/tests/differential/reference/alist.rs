@@ -1,25 +1,41 @@
-//! alist text by building strings, and its comparison by splitting into tokens.
+//! alist text by building strings, and its comparison by splitting into tokens, in both forms of an alist.
 use super::graph::graph;
 use super::{plan, refused};
 use qcldpc::{Plan, Refusal};
+use std::fmt::Write;
 
-fn line(numbers: &[usize]) -> String {
-    let words: Vec<String> = numbers.iter().map(|n| n.to_string()).collect();
-    words.join(" ") + "\n"
+/// Padded: short lists are filled up with 0, and a line feed is a blank.
+/// Unpadded: a short list ends with its line, and each line feed is a token.
+#[derive(Clone, Copy, PartialEq, Eq)]
+pub enum Form {
+    Padded,
+    Unpadded,
 }
 
-/// A line for each node: its neighbours counted from 1, filled up with 0.
-fn neighbour_lines(lists: &[Vec<usize>], greatest: usize) -> String {
-    let padded = |list: &Vec<usize>| {
+// One space between numbers, none at the line's end.
+fn line(numbers: &[usize]) -> String {
+    let mut line = String::new();
+    for n in numbers {
+        write!(line, "{n} ").unwrap();
+    }
+    line.pop();
+    line + "\n"
+}
+
+/// A line for each node: its neighbours counted from 1, in the padded form filled up with 0.
+fn neighbour_lines(lists: &[Vec<usize>], greatest: usize, form: Form) -> String {
+    let numbers = |list: &Vec<usize>| {
         let mut numbers: Vec<usize> = list.iter().map(|n| n + 1).collect();
-        numbers.resize(greatest, 0);
+        if form == Form::Padded {
+            numbers.resize(greatest, 0);
+        }
         numbers
     };
-    lists.iter().map(|list| line(&padded(list))).collect()
+    lists.iter().map(|list| line(&numbers(list))).collect()
 }
 
-/// The text of a plan that is not refused.
-pub fn text(plan: &Plan) -> String {
+/// The text in a form of a plan that is not refused.
+pub fn text_in(plan: &Plan, form: Form) -> String {
     let g = graph(plan);
     let degrees = |lists: &[Vec<usize>]| lists.iter().map(Vec::len).collect::<Vec<usize>>();
     let (bits, checks) = (degrees(&g.checks_of), degrees(&g.bits_of));
@@ -29,10 +45,15 @@ pub fn text(plan: &Plan) -> String {
         line(&[most_bits, most_checks]),
         line(&bits),
         line(&checks),
-        neighbour_lines(&g.checks_of, most_bits),
-        neighbour_lines(&g.bits_of, most_checks),
+        neighbour_lines(&g.checks_of, most_bits, form),
+        neighbour_lines(&g.bits_of, most_checks, form),
     ]
     .concat()
+}
+
+/// The text that is written: the padded one.
+pub fn text(plan: &Plan) -> String {
+    text_in(plan, Form::Padded)
 }
 
 /// The length of the text or a refusal, and the lent place as it is then.
@@ -47,26 +68,67 @@ pub fn write(plan: &Plan, lent: &[u8]) -> (Result<usize, Refusal>, Vec<u8>) {
     (Ok(text.len()), [text.as_bytes(), &lent[text.len()..]].concat())
 }
 
-/// The tokens of a text, each with the place of its first byte.
-fn tokens(text: &[u8]) -> Vec<(usize, &[u8])> {
-    let parts = text.split(|byte| b" \t\r\n".contains(byte));
-    let placed = parts.map(|part| (part.as_ptr() as usize - text.as_ptr() as usize, part));
-    placed.filter(|(_, part)| !part.is_empty()).collect()
+/// How long the token is that begins at a place of a text; 0 where a blank stands there.
+fn token_length(text: &[u8], place: usize, form: Form) -> usize {
+    match text[place] {
+        b'\n' if form == Form::Unpadded => 1,
+        _ => text[place..].iter().take_while(|byte| !b" \t\r\n".contains(byte)).count(),
+    }
 }
 
-pub fn compare(plan: &Plan, lent: &[u8]) -> Result<(), Refusal> {
-    plan::check(plan)?;
-    let text = text(plan);
-    let (expected, given) = (tokens(text.as_bytes()), tokens(lent));
-    for (k, (_, token)) in expected.iter().enumerate() {
-        match given.get(k) {
-            None => return Err(refused(21, &[lent.len()])),
-            Some((place, other)) if other != token => return Err(refused(21, &[*place])),
-            Some(_) => (),
+/// The tokens of a text in a form, each with the place of its first byte.
+fn tokens(text: &[u8], form: Form) -> Vec<(usize, &[u8])> {
+    let (mut found, mut place) = (vec![], 0);
+    while place < text.len() {
+        let length = token_length(text, place, form);
+        if length > 0 {
+            found.push((place, &text[place..place + length]));
+        }
+        place += length.max(1);
+    }
+    found
+}
+
+/// Where a text first departs from a form of an alist: at its first wrong or extra token, or at its end if it ends early.
+fn departure(alist: &str, text: &[u8], form: Form) -> Option<usize> {
+    let (expected, given) = (tokens(alist.as_bytes(), form), tokens(text, form));
+    for (k, (place, token)) in given.iter().enumerate() {
+        if k == expected.len() || expected[k].1 != *token {
+            return Some(*place);
         }
     }
-    match given.get(expected.len()) {
-        Some((place, _)) => Err(refused(21, &[*place])),
-        None => Ok(()),
+    (given.len() < expected.len()).then_some(text.len())
+}
+
+/// A plan's alist in both forms.
+pub struct Alist {
+    padded: String,
+    unpadded: String,
+}
+
+/// The alist of a plan, or why the plan is refused.
+pub fn alist(plan: &Plan) -> Result<Alist, Refusal> {
+    plan::check(plan)?;
+    Ok(Alist { padded: text_in(plan, Form::Padded), unpadded: text_in(plan, Form::Unpadded) })
+}
+
+/// Where a text first departs from each form; none where it agrees with that form whole.
+pub struct Departures {
+    pub padded: Option<usize>,
+    pub unpadded: Option<usize>,
+}
+
+pub fn departures(alist: &Alist, text: &[u8]) -> Departures {
+    Departures {
+        padded: departure(&alist.padded, text, Form::Padded),
+        unpadded: departure(&alist.unpadded, text, Form::Unpadded),
+    }
+}
+
+/// A text agrees that departs from one form nowhere; else the later place is shown.
+pub fn compare(departures: &Departures) -> Result<(), Refusal> {
+    match (departures.padded, departures.unpadded) {
+        (Some(padded), Some(unpadded)) => Err(refused(21, &[padded.max(unpadded)])),
+        _ => Ok(()),
     }
 }

@@ -8,7 +8,8 @@ use borrow.Author.Needs.{needs}
 use Rattle.writing.proofs.Wrote.{Going, going-start, part-room, part-done, last-done}
 use Rattle.exponent.specs.Tanner.{graphOf}
 use Rattle.lines.specs.declared.Line.the-variants.{Node}
-use Rattle.lines.specs.Lines.{lineOf, lineRest}
+use Rattle.tokens.specs.declared.Form.the-variants.{Padded}
+use Rattle.lines.specs.Lines.{lineOf, mostOf, lineRest}
 use Rattle.lines.specs.Text.{item, lineFrom}
 use Rattle.lines.proofs.Rest.{line-start, line-end, node-next}
 use Rattle.alist.proofs.Laid.{lineFrom-next, lineFrom-end}
@@ -17,17 +18,17 @@ use Rattle.alist.proofs.put.put_node.Tie as tie
 
 abbrev Inv-loop : tie.InvT-loop
 Inv-loop text₀ at plan down along l side x w k₀ from₀ o₀ text k from o =
-    (length text ≡ length text₀) × Going text₀ at (lineFrom 0 (lineOf (graphOf plan (l .shape)) (Node side x))) (lineFrom k (lineRest plan l (Node side x) k from)) o text
+    (length text ≡ length text₀) × Going text₀ at (lineFrom 0 (lineOf (graphOf plan (l .shape)) (Node side x))) (lineFrom k (lineRest plan l (Node side x) (mostOf l side) k from)) o text
 
 abbrev μ-loop : tie.MeasureT-loop
 μ-loop text₀ at plan down along l side x w k₀ from₀ o₀ text k from o = w - k
 
 -- past the last number only the line feed is left
 past : (c : tie.After-loop Inv-loop μ-loop) → let a = c .before .before .before .before .before .before .args in
-    lineFrom (c .before .loop .k) (lineRest (a .plan .now) (a .l) (Node (a .side) (a .x)) (c .before .loop .k) (c .before .loop .from)) ≡ 10 ∷ []
+    lineFrom (c .before .loop .k) (lineRest (a .plan .now) (a .l) (Node (a .side) (a .x)) (mostOf (a .l) (a .side)) (c .before .loop .k) (c .before .loop .from)) ≡ 10 ∷ []
 past c =
     let t = c .before .before .before .before .before .before in
-    lineFrom-end _ _ (line-end _ _ _ _ (t .pre .0) _ _ _ (rw (c .before .before .most-of .ensures) at (c .loop-test .left)))
+    lineFrom-end _ _ (line-end (t .args .plan .now) (t .args .l) _ _ (t .pre .0) Padded (Node (t .args .side) (t .args .x)) _ _ (rw (c .before .before .most-of .ensures) at (c .loop-test .left)))
 
 most-of-requires : tie.Need-most-of-requires Inv-loop μ-loop
 most-of-requires c κs = tt
@@ -35,16 +36,17 @@ most-of-requires c κs = tt
 loop-holds : tie.Need-loop-holds Inv-loop μ-loop
 loop-holds c =
     let t = c .before .before .before .before in
-    (refl, rw (line-start (t .args .plan .now) (t .args .l) _ _ (t .pre .0) (Node (t .args .side) (t .args .x))) (going-start _ _ _))
+    (refl, rw (line-start (t .args .plan .now) (t .args .l) _ _ (t .pre .0) Padded (Node (t .args .side) (t .args .x))) (going-start _ _ _))
 
 -- the line goes on with the next neighbour
 goes : (c : tie.After-next-neighbour Inv-loop μ-loop) → let a = c .before .before .before .before .before .before .before .args in
     let k = c .before .before .loop .k in
-    lineRest (a .plan .now) (a .l) (Node (a .side) (a .x)) k (c .before .before .loop .from)
-    ≡ c .next-neighbour .result .value ∷ lineRest (a .plan .now) (a .l) (Node (a .side) (a .x)) (k + 1) (c .next-neighbour .result .next)
+    lineRest (a .plan .now) (a .l) (Node (a .side) (a .x)) (mostOf (a .l) (a .side)) k (c .before .before .loop .from)
+    ≡ c .next-neighbour .result .value ∷ lineRest (a .plan .now) (a .l) (Node (a .side) (a .x)) (mostOf (a .l) (a .side)) (k + 1) (c .next-neighbour .result .next)
 goes c =
     let t = c .before .before .before .before .before .before .before in
-    node-next _ _ _ _ (t .pre .0) (Node (t .args .side) (t .args .x)) _ _ (rw (c .before .before .before .most-of .ensures) at (c .before .loop-test .taken)) _ _ refl _ (c .next-neighbour .ensures)
+    let inside = rw (c .before .before .before .most-of .ensures) at (c .before .loop-test .taken) in
+    node-next _ _ _ _ (t .pre .0) (Node (t .args .side) (t .args .x)) _ _ inside _ _ refl _ (c .next-neighbour .ensures) _ inside
 
 next-neighbour-requires : tie.Need-next-neighbour-requires Inv-loop μ-loop
 next-neighbour-requires c κs = let t = c .before .before .before .before .before .before in (t .pre .0 .ready, t .pre .1)
@@ -54,7 +56,7 @@ put-item-requires c κs =
     let t = c .before .before .before .before .before .before .before .before in
     let n = c .before .next-neighbour in
     let k = c .before .before .before .loop .k in
-    let rest = lineRest (t .args .plan .now) (t .args .l) (Node (t .args .side) (t .args .x)) (k + 1) (n .result .next) in
+    let rest = lineRest (t .args .plan .now) (t .args .l) (Node (t .args .side) (t .args .x)) (mostOf (t .args .l) (t .args .side)) (k + 1) (n .result .next) in
     part-room (item k (n .result .value)) (lineFrom (k + 1) rest) (lineFrom-next _ _ _ _ (goes (c .before))) (c .before .before .before .loop .inv .1) _ (t .pre .2)
 
 add-k : tie.Need-add-k Inv-loop μ-loop

@@ -1,15 +1,15 @@
 -- `alist::put::put_numbers` meets its contract. The loop's invariant: what is left of the line is its numbers from the k-th on.
 -- The measure is how many are left. Assumes nothing.
-use Prim.Native.Nat.{_+_, _-_}
+use Prim.Native.Nat.{_+_, _-_, _<_}
 use mathlib.Core.Path.{_≡_, refl, _∙_}
 use mathlib.Core.List.{[], _∷_}
 use lib.ListN.{length}
 use borrow.Author.Needs.{needs}
 use Rattle.writing.proofs.Wrote.{Going, going-start, part-room, part-done, last-done}
 use Rattle.exponent.specs.Tanner.{graphOf}
-use Rattle.lines.specs.Lines.{lineOf, lineRest, Carried}
+use Rattle.tokens.specs.declared.Form.the-variants.{Padded}
+use Rattle.lines.specs.Lines.{lineOf, widthOf, lineRest, Carried}
 use Rattle.lines.specs.Text.{item, lineFrom}
-use Rattle.lines.proofs.Lanes.{small}
 use Rattle.lines.proofs.Rest.{line-start, line-end, carried-start}
 use Rattle.alist.proofs.Laid.{lineFrom-next, lineFrom-end}
 use Rattle.alist.proofs.put.put_numbers.Statement.{statement}
@@ -17,25 +17,30 @@ use Rattle.alist.proofs.put.put_numbers.Tie as tie
 
 abbrev Inv-loop : tie.InvT-loop
 Inv-loop text₀ at plan down along l line w k₀ from₀ o₀ text k from o =
-    (length text ≡ length text₀) × Going text₀ at (lineFrom 0 (lineOf (graphOf plan (l .shape)) line)) (lineFrom k (lineRest plan l line k from)) o text × Carried plan l line k from
+    (length text ≡ length text₀) × Going text₀ at (lineFrom 0 (lineOf (graphOf plan (l .shape)) line)) (lineFrom k (lineRest plan l line (widthOf Padded plan l line) k from)) o text × Carried plan l line k from
 
 abbrev μ-loop : tie.MeasureT-loop
 μ-loop text₀ at plan down along l line w k₀ from₀ o₀ text k from o = w - k
 
 -- past the last number only the line feed is left
 past : (c : tie.After-loop Inv-loop μ-loop) → let a = c .before .before .before .before .before .before .args in
-    lineFrom (c .before .loop .k) (lineRest (a .plan .now) (a .l) (a .line) (c .before .loop .k) (c .before .loop .from)) ≡ 10 ∷ []
+    lineFrom (c .before .loop .k) (lineRest (a .plan .now) (a .l) (a .line) (widthOf Padded (a .plan .now) (a .l) (a .line)) (c .before .loop .k) (c .before .loop .from)) ≡ 10 ∷ []
 past c =
     let t = c .before .before .before .before .before .before in
-    lineFrom-end _ _ (line-end _ _ _ _ (t .pre .0) _ _ _ (rw (c .before .before .width .ensures) at (c .loop-test .left)))
+    lineFrom-end _ _ (line-end (t .args .plan .now) (t .args .l) _ _ (t .pre .0) Padded (t .args .line) _ _ (rw (c .before .before .width .ensures) at (c .loop-test .left)))
+
+-- a number of the line
+inside : (c : tie.After-number-at Inv-loop μ-loop) → let a = c .before .before .before .before .before .before .before .args in
+    c .before .before .loop .k < widthOf Padded (a .plan .now) (a .l) (a .line)
+inside c = rw (c .before .before .before .width .ensures) at (c .before .loop-test .taken)
 
 width-requires : tie.Need-width-requires Inv-loop μ-loop
-width-requires c κs = let t = c .before .before .before in small _ (t .args .l .shape) (t .pre .0 .ready .well)
+width-requires c κs = search needs
 
 loop-holds : tie.Need-loop-holds Inv-loop μ-loop
 loop-holds c =
     let t = c .before .before .before .before in
-    (refl, rw (line-start (t .args .plan .now) (t .args .l) _ _ (t .pre .0) (t .args .line)) (going-start _ _ _), carried-start (t .args .plan .now) (t .args .l) (t .args .line) (t .pre .0 .ready .well .some-lift))
+    (refl, rw (line-start (t .args .plan .now) (t .args .l) _ _ (t .pre .0) Padded (t .args .line)) (going-start _ _ _), carried-start (t .args .plan .now) (t .args .l) (t .args .line) (t .pre .0 .ready .well .some-lift))
 
 number-at-requires : tie.Need-number-at-requires Inv-loop μ-loop
 number-at-requires c κs = let t = c .before .before .before .before .before .before in (t .pre .0, t .pre .1, rw (c .before .before .width .ensures) at (c .loop-test .taken), c .before .loop .inv .2)
@@ -45,8 +50,8 @@ put-item-requires c κs =
     let t = c .before .before .before .before .before .before .before .before in
     let n = c .before .number-at in
     let k = c .before .before .before .loop .k in
-    let rest = lineRest (t .args .plan .now) (t .args .l) (t .args .line) (k + 1) (n .result .next) in
-    part-room (item k (n .result .value)) (lineFrom (k + 1) rest) (lineFrom-next _ _ _ _ (n .ensures .0)) (c .before .before .before .loop .inv .1) _ (t .pre .2)
+    let rest = lineRest (t .args .plan .now) (t .args .l) (t .args .line) (widthOf Padded (t .args .plan .now) (t .args .l) (t .args .line)) (k + 1) (n .result .next) in
+    part-room (item k (n .result .value)) (lineFrom (k + 1) rest) (lineFrom-next _ _ _ _ (n .ensures .0 _ (inside (c .before)))) (c .before .before .before .loop .inv .1) _ (t .pre .2)
 
 add-k : tie.Need-add-k Inv-loop μ-loop
 add-k c = search needs
@@ -58,7 +63,7 @@ loop-again : tie.Need-loop-again Inv-loop μ-loop
 loop-again c =
     let n = c .before .before .before .before in
     let v = n .before .before .loop .inv in
-    (c .before .before .put-item .kept .0 ∙ v .0, part-done _ _ (lineFrom-next _ _ _ _ (n .number-at .ensures .0)) (v .1) (c .before .before .put-item .ensures), n .number-at .ensures .1)
+    (c .before .before .put-item .kept .0 ∙ v .0, part-done _ _ (lineFrom-next _ _ _ _ (n .number-at .ensures .0 _ (inside n))) (v .1) (c .before .before .put-item .ensures), n .number-at .ensures .1)
 
 put-byte-requires : tie.Need-put-byte-requires Inv-loop μ-loop
 put-byte-requires c κs =

@@ -8,6 +8,7 @@ use lib.ListN.{length}
 use borrow.Author.Needs.{needs}
 use Rattle.writing.proofs.Wrote.{Going, going-start, part-room, part-done, all-done}
 use Rattle.exponent.specs.Tanner.{graphOf}
+use Rattle.tokens.specs.declared.Form.the-variants.{Padded}
 use Rattle.lines.specs.declared.sides.Side.the-variants.{Bits, Checks}
 use Rattle.lines.specs.Alist.{linesOf}
 use Rattle.lines.specs.Sides.{Small}
@@ -21,18 +22,18 @@ use Rattle.alist.proofs.put.put_text.Tie as tie
 
 abbrev Inv-loop : tie.InvT-loop
 Inv-loop text₀ plan down along l count i₀ o₀ text i o =
-    (length text ≡ length text₀) × Going text₀ 0 (textOf (linesOf (graphOf plan (l .shape)))) (textOf (linesFrom plan (l .shape) i)) o text
+    (length text ≡ length text₀) × Going text₀ 0 (textOf (linesOf (graphOf plan (l .shape)))) (textOf (linesFrom Padded plan (l .shape) i)) o text
 
 abbrev μ-loop : tie.MeasureT-loop
 μ-loop text₀ plan down along l count i₀ o₀ text i o = count - i
 
 -- the line that a turn writes
 next : (c : tie.After-line-at Inv-loop μ-loop) → let a = c .before .before .before .before .before .before .before .args in
-    linesFrom (a .plan .now) (a .l .shape) (c .before .before .loop .i)
-    ≡ lineOf (graphOf (a .plan .now) (a .l .shape)) (c .line-at .result) ∷ linesFrom (a .plan .now) (a .l .shape) (c .before .before .loop .i + 1)
+    linesFrom Padded (a .plan .now) (a .l .shape) (c .before .before .loop .i)
+    ≡ lineOf (graphOf (a .plan .now) (a .l .shape)) (c .line-at .result) ∷ linesFrom Padded (a .plan .now) (a .l .shape) (c .before .before .loop .i + 1)
 next c =
     let a = c .before .before .before .before .before .before .before .args in
-    lines-next (a .plan .now) (a .l .shape) _ _ (rw (c .before .before .before .line-count .ensures) at (c .before .loop-test .taken)) (c .line-at .ensures .0)
+    lines-next Padded (a .plan .now) (a .l .shape) _ _ (rw (c .before .before .before .line-count .ensures) at (c .before .loop-test .taken)) (c .line-at .ensures .0)
 
 line-count-requires : tie.Need-line-count-requires Inv-loop μ-loop
 line-count-requires c κs = let t = c .before .before .before in small _ (t .args .l .shape) (t .pre .0 .ready .well)
@@ -40,7 +41,7 @@ line-count-requires c κs = let t = c .before .before .before in small _ (t .arg
 loop-holds : tie.Need-loop-holds Inv-loop μ-loop
 loop-holds c =
     let t = c .before .before .before .before in
-    (refl, rw (lines-start (t .args .plan .now) (t .args .l .shape)) (going-start _ _ _))
+    (refl, rw (lines-start Padded (t .args .plan .now) (t .args .l .shape)) (going-start _ _ _))
 
 line-at-requires : tie.Need-line-at-requires Inv-loop μ-loop
 line-at-requires c κs =
@@ -53,7 +54,7 @@ put-line-requires c κs =
     let i = c .before .before .before .loop .i in
     let line = c .before .line-at in
     let here = lineFrom 0 (lineOf (graphOf (t .args .plan .now) (t .args .l .shape)) (line .result)) in
-    let later = textOf (linesFrom (t .args .plan .now) (t .args .l .shape) (i + 1)) in
+    let later = textOf (linesFrom Padded (t .args .plan .now) (t .args .l .shape) (i + 1)) in
     let room = part-room here later (text-next _ _ _ (next (c .before))) (c .before .before .before .loop .inv .1) (2 ^ 64) (omega (arith, t .pre .1)) in
     (t .pre .0, line .ensures .1, room)
 
@@ -79,7 +80,7 @@ same-length c = c .before .loop .inv .0
 returns : tie.Need-returns Inv-loop μ-loop
 returns c =
     let t = c .before .before .before .before .before .before in
-    all-done (text-end _ (lines-end (t .args .plan .now) (t .args .l .shape) _ (rw (c .before .before .line-count .ensures) at (c .loop-test .left)))) (c .before .loop .inv .1)
+    all-done (text-end _ (lines-end Padded (t .args .plan .now) (t .args .l .shape) _ (rw (c .before .before .line-count .ensures) at (c .loop-test .left)))) (c .before .loop .inv .1)
 
 pub put-text-spec : {M : Type 1} → statement M
 put-text-spec =

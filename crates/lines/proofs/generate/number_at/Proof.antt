@@ -3,6 +3,7 @@ use Prim.Native.Nat.{_<_}
 use mathlib.Core.Path.{ap, _∙_}
 use native.Mathlib.Omega.{arith}
 use borrow.Author.Needs.{needs}
+use Rattle.tokens.specs.declared.Form.the-variants.{Padded}
 use Rattle.lines.specs.Sides.{nodeCount}
 use Rattle.lines.specs.Lines.{mostOf, widthOf}
 use Rattle.lines.proofs.Lanes.{small}
@@ -39,7 +40,7 @@ degree-at-requires : tie.Need-degree-at-requires
 degree-at-requires c κs =
     let t = from-keys3 (c .before) in
     let told = c .before .line .given .1 in
-    let inside : t .args .k < nodeCount (t .args .l .shape) (c .before .line .given .0 .0) = omega (arith, ap (widthOf (t .args .l)) told, t .pre .2) in
+    let inside : t .args .k < nodeCount (t .args .l .shape) (c .before .line .given .0 .0) = omega (arith, ap (widthOf Padded (t .args .plan .now) (t .args .l)) told, t .pre .2) in
     (t .pre .0 .ready, inside, carried-last _ _ _ _ _ _ told (t .pre .3))
 
 enum-known-line-2 : tie.Need-enum-known-line-2

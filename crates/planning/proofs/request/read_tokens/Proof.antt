@@ -10,7 +10,7 @@ use Rattle.planning.proofs.request.read_tokens.Tie as tie
 
 -- the first token ends within the text
 first : (c : tie.After-token-end) → c .token-end .result ≤ length (c .before .before .before .args .text .now)
-first c = token-in _ 0 _ _ (c .before .skip .ensures) (c .token-end .ensures) (omega arith)
+first c = token-in _ _ 0 _ _ (c .before .skip .ensures) (c .token-end .ensures) (omega arith)
 
 skip-requires : tie.Need-skip-requires
 skip-requires c κs = search needs
@@ -45,7 +45,7 @@ part-read-start-2 c = search needs
 part-read-end-2 : tie.Need-part-read-end-2
 part-read-end-2 c =
     let s = c .before in
-    token-in _ _ _ _ (s .skip2 .ensures) (c .token-end2 .ensures) (first (s .before .before .before))
+    token-in _ _ _ _ _ (s .skip2 .ensures) (c .token-end2 .ensures) (first (s .before .before .before))
 
 read-requires-2 : tie.Need-read-requires-2
 read-requires-2 c κs = search needs

@@ -1,0 +1,43 @@
+//! Times the proved alist writer and comparer on the cyclic table plan of order 6 at lift 46 (108 rows, 216 columns: 9,936
+//! bits).
+//!
+//! The writer runs once with a place of exactly the text's length, for which the call measures before it writes, and once with
+//! a roomy place. Beside it stand three plain Rust writers that put digits straight into the lent bytes. The one that "measures
+//! and writes" does what the call does for an exact place: it judges the plan, builds sparse lists of it, adds up the text's
+//! length, finds that it fits, and writes. The one that "writes at once" does the same without the length. The one with the
+//! "plan prepared once" only writes: its lists were made before the clock started. The lent bytes are not cleared between
+//! texts.
+//!
+//! The comparer runs on the padded text; on the unpadded text of an irregular plan, which is the same plan with every seventh
+//! block emptied; and on a wrong text, padded with one token too many, which is read to its end in both forms. Beside it stand
+//! two plain Rust comparers that read token by token against the numbers that they expect, in the padded form and, where the
+//! text departs from it, in the unpadded form. The one with the "same work for each text" judges the plan and builds its sparse
+//! lists first; the one with the "plan prepared once" only reads.
+#[path = "../common/mod.rs"]
+mod common;
+mod comparers;
+mod lists;
+mod writers;
+
+use common::{cyclic_plan, OwnedPlan};
+use lists::Form;
+use writers::text;
+
+// The plan with every seventh filled block emptied.
+fn irregular(plan: &OwnedPlan) -> OwnedPlan {
+    let mut plan = plan.clone();
+    plan.entries.iter_mut().filter(|entry| **entry >= 0).skip(6).step_by(7).for_each(|entry| *entry = -1);
+    plan
+}
+
+fn main() {
+    let plan = cyclic_plan(6, 46, &[1; 36], 6);
+    let padded = text(&plan, Form::Padded);
+    println!("alist of {} bits, {} bytes", plan.bits(), padded.len());
+    writers::beside("exact", &plan, padded.len());
+    writers::beside("roomy", &plan, 1 << 20);
+    comparers::beside("padded", &plan, &padded, Ok(()));
+    let irregular = irregular(&plan);
+    comparers::beside("unpadded", &irregular, &text(&irregular, Form::Unpadded), Ok(()));
+    comparers::beside("wrong", &plan, &[&padded[..], b"0"].concat(), Err(padded.len()));
+}
