@@ -17,7 +17,7 @@ use Rattle.tokens.specs.declared.Form.{Form}
 use Rattle.tokens.specs.declared.Cursor.{Cursor}
 use Rattle.tokens.specs.declared.Step.{Step}
 use Rattle.tokens.specs.declared.Step.the-variants.{Next, Wrong}
-use Rattle.tokens.specs.Tokens.{Item, numeral, lineEnd, start, mismatch}
+use Rattle.tokens.specs.Tokens.{Item, numeral, ending, start, mismatch}
 use Rattle.tokens.specs.Steps.{readLine, atStart, expectAfter, readAfter, mismatchAfter}
 use Rattle.tokens.proofs.Reading.{step-mismatch, read-append, line-append, after-item, past-number}
 use Rattle.lines.specs.declared.sides.Side.the-variants.{Bits, Checks}
@@ -35,9 +35,9 @@ use Rattle.comparer.specs.Later.{laterLines}
 
 module _ (form : Form) (text : List ℕ) where
   -- a line, by the answers f for its numbers and r for its end
-  pub line-read : (at : ℕ) (line : List ℕ) (f r : Step) → f ≡ readLine form text at (map numeral line) → r ≡ readAfter form text f (lineEnd form) → r ≡ readLine form text at (lineItems form line)
+  pub line-read : (at : ℕ) (line : List ℕ) (f r : Step) → f ≡ readLine form text at (map numeral line) → r ≡ readAfter form text f (ending form) → r ≡ readLine form text at (lineItems form line)
   line-read at line f r p q =
-      q ∙ ap (λ (s : Step). readAfter form text s (lineEnd form)) p ∙ sym (line-append form text (map numeral line) (lineEnd form) at)
+      q ∙ ap (λ (s : Step). readAfter form text s (ending form)) p ∙ sym (line-append form text (map numeral line) (ending form) at)
 
   -- a line, by the answer f
   module _ (at : ℕ) (line : List ℕ) (f : Step) (p : f ≡ readLine form text at (lineItems form line)) (left later : List (List ℕ)) (q : left ≡ line ∷ later) where
@@ -83,7 +83,7 @@ module _ (form : Form) (plan : List ℤ) (s : Shape) where
   lines-later = ap (drop 1) (sym (lines-next form plan s 0 Sizes (omega arith) refl) ∙ lines-start form plan s)
 
   pub first-line : (bits checks : ℕ) → bits ≡ nodeCount s Bits → checks ≡ nodeCount s Checks
-      → numeral bits ∷ numeral checks ∷ lineEnd form ++ itemsOf form (laterLines form (graphOf plan s)) ≡ itemsOf form (linesIn form (graphOf plan s))
+      → numeral bits ∷ numeral checks ∷ ending form ++ itemsOf form (laterLines form (graphOf plan s)) ≡ itemsOf form (linesIn form (graphOf plan s))
   unfolding itemsOf linesIn
   first-line bits checks p q = rw (p ∙ sym (nodes-of plan s Bits), q ∙ sym (nodes-of plan s Checks))
 

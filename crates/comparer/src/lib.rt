@@ -14,7 +14,7 @@ ghost use Prim.Native.Nat.{_≤_, max};
 ghost use lib.ListN.{length};
 ghost use Rattle.exponent.specs.Limits.{WellFormed};
 ghost use Rattle.exponent.specs.Tanner.{graphOf};
-ghost use Rattle.tokens.specs.Tokens.{numeral, lineEnd, mismatch};
+ghost use Rattle.tokens.specs.Tokens.{numeral, ending, mismatch};
 ghost use Rattle.tokens.specs.Steps.{readLine, mismatchAfter};
 ghost use Rattle.lines.specs.Lines.{lineIn, Measured, InLine};
 ghost use Rattle.lines.specs.Text.{lineItems, itemsOf};
@@ -121,11 +121,11 @@ fn compare_from(text: &[u8], form: Form, c: Cursor, plan: &[i16], s: Shape) -> V
     compare_lines(text, form, c, plan, &down, &along, l)
 }
 
-// The same behind the numbers of the first line, from any place: its end comes next. A wrong step decides, and past the text's end the
-// first number is missing.
+// The same behind the numbers of the first line, from any place: the end of that line comes next. A wrong step decides, and past the
+// text's end the first number is missing.
 fn compare_after(text: &[u8], form: Form, step: Step, plan: &[i16], s: Shape) -> Verdict
     requires { ⌜ WellFormed (now plan) (s .rows) (s .cols) (s .lift) ⌝ }
-    ensures { λ r. ⌜ r ≡ verdict (mismatchAfter form (now (text .entry)) step (lineEnd form ++ itemsOf form (laterLines form (graphOf (now (plan .entry)) s)))) ⌝ }
+    ensures { λ r. ⌜ r ≡ verdict (mismatchAfter form (now (text .entry)) step (ending form ++ itemsOf form (laterLines form (graphOf (now (plan .entry)) s)))) ⌝ }
 {
     match tokens::end_line(text, form, step) {
         Step::Next(c) => {

@@ -7,7 +7,7 @@ ghost use mathlib.Core.Path.{_≡_};
 ghost use mathlib.Core.List.{_∷_, _++_};
 ghost use Rattle.exponent.specs.Limits.{WellFormed};
 ghost use Rattle.exponent.specs.Tanner.{graphOf};
-ghost use Rattle.tokens.specs.Tokens.{numeral, lineEnd, mismatch};
+ghost use Rattle.tokens.specs.Tokens.{numeral, ending, mismatch};
 ghost use Rattle.tokens.specs.Steps.{atStart, expectAfter, mismatchAfter};
 ghost use Rattle.lines.specs.Text.{itemsOf};
 ghost use Rattle.comparer.specs.Verdict.{verdict};
@@ -41,7 +41,7 @@ pub fn read_number<'a>(r: Reader<'a>, form: Form, n: usize) -> Reader<'a>
 // Compares what is left of a text behind the numbers of the first line: the end of that line, and the lines of a valid plan behind it.
 pub fn compare_rest<'a, 'b>(r: Reader<'a>, form: Form, plan: &'b [i16], s: Shape) -> Verdict
     requires { ⌜ WellFormed (now plan) (s .rows) (s .cols) (s .lift) ⌝ }
-    ensures { λ v. ⌜ v ≡ verdict (mismatchAfter form (now (r .entry .text)) (r .entry .step) (lineEnd form ++ itemsOf form (laterLines form (graphOf (now (plan .entry)) s)))) ⌝ }
+    ensures { λ v. ⌜ v ≡ verdict (mismatchAfter form (now (r .entry .text)) (r .entry .step) (ending form ++ itemsOf form (laterLines form (graphOf (now (plan .entry)) s)))) ⌝ }
 {
     crate::compare_after(r.text, form, r.step, plan, s)
 }
@@ -56,7 +56,7 @@ pub fn read_alist(
     s: Shape,
 ) -> Verdict
     requires { ⌜ WellFormed (now plan) (s .rows) (s .cols) (s .lift) ⌝ }
-    ensures { λ v. ⌜ v ≡ verdict (mismatch form (now (text .entry)) 0 (numeral bits ∷ numeral checks ∷ lineEnd form ++ itemsOf form (laterLines form (graphOf (now (plan .entry)) s)))) ⌝ }
+    ensures { λ v. ⌜ v ≡ verdict (mismatch form (now (text .entry)) 0 (numeral bits ∷ numeral checks ∷ ending form ++ itemsOf form (laterLines form (graphOf (now (plan .entry)) s)))) ⌝ }
 {
     compare_rest(
         read_number(read_number(start_reading(text), form, bits), form, checks),

@@ -3,7 +3,7 @@ use Prim.Native.Nat.{ℕ, zero, suc}
 use mathlib.Core.List.{List, [], _∷_, _++_, map}
 use Rattle.decimal.specs.Decimal.{decimal}
 use Rattle.tokens.specs.declared.Form.{Form}
-use Rattle.tokens.specs.Tokens.{Item, numeral, lineEnd}
+use Rattle.tokens.specs.Tokens.{Item, numeral, ending}
 
 -- the k-th number of a line, from 0: a space before each but the first
 unfoldable pub item : ℕ → ℕ → List ℕ
@@ -21,7 +21,7 @@ textOf (line ∷ lines) = lineFrom 0 line ++ textOf lines
 
 -- what a text's tokens are held to, for a line and for lines in their order: the numbers and, in the unpadded form, the end of each line
 abbrev pub lineItems : Form → List ℕ → List Item
-lineItems form line = map numeral line ++ lineEnd form
+lineItems form line = map numeral line ++ ending form
 
 unfoldable pub itemsOf : Form → List (List ℕ) → List Item
 itemsOf form [] = []

@@ -15,7 +15,7 @@ use Rattle.decimal.proofs.Digits.{decimal-ends}
 use Rattle.tokens.specs.declared.Form.{Form}
 use Rattle.tokens.specs.declared.Form.the-variants.{Padded, Unpadded}
 use Rattle.tokens.specs.Tokens.{blank, between, start, tokenAt, stop, Item, numeral, line-end, right, behind, mismatch}
-use Rattle.tokens.proofs.Runs.{start-le, token-end, token-stop, token-more, tokenAt-le, token-part, same-exactly, number-none}
+use Rattle.tokens.proofs.Runs.{feed-unpadded, no-feed, start-le, token-end, token-stop, token-more, tokenAt-le, token-part, same-exactly, number-none}
 use Rattle.tokens.proofs.ByPlace.{start-from, before-start, at-start, start-is, start-none, in-token, behind-token, token-is}
 use Rattle.promises.specs.TurnedAway.{IsBlank, tab, line-feed, carriage-return, space, Between, IsToken, run, feed, NextToken, Says, FirstWrong, wrong, extra, early, go-on}
 
@@ -45,7 +45,7 @@ no-blank b h = by-bool (blank b) (λ e. absurd (h (blank-is b e))) (λ e. e)
 between-found : (form : Form) (b : ℕ) → Between form b → between form b ≡ true
 unfolding between
 between-found Padded b h = blank-found h
-between-found Unpadded b h = rw (ne-eqb b 10 (h .1)) (blank-found (h .0))
+between-found Unpadded b h = sym (no-feed Unpadded b (h .1)) ∙ blank-found (h .0)
 
 between-is : (form : Form) (b : ℕ) → between form b ≡ true → Between form b
 unfolding between
@@ -53,23 +53,16 @@ between-is Padded b e = blank-is b e
 between-is Unpadded b e =
     by-bool (eqb b 10) (λ t. both-ways (rw t at e) refl) (λ t. (blank-is b (rw t at e), λ q. both-ways (eq-eqb b 10 q) t))
 
+-- and what does not: a byte that is not blank and, in the unpadded form, a line feed
 kept-byte : (form : Form) (b : ℕ) → blank b ≡ false → between form b ≡ false
-unfolding between
-kept-byte Padded b e = e
-kept-byte Unpadded b e = by-bool (eqb b 10) (λ t. rw t) (λ t. rw (t, e))
+kept-byte form b e = sym (no-feed form b (λ q. other-byte b e (subst IsBlank (sym q) line-feed))) ∙ e
 
 kept-feed : (b : ℕ) → b ≡ 10 → between Unpadded b ≡ false
-unfolding between
-kept-feed b e = rw (eq-eqb b 10 e)
+kept-feed b e = sym (feed-unpadded Unpadded b refl e)
 
 kept-blank : (b : ℕ) → between Padded b ≡ false → blank b ≡ false
 unfolding between
 kept-blank b e = e
-
--- what does not is a line feed, in the unpadded form, or no blank byte
-kept-run : (b : ℕ) → between Unpadded b ≡ false → (b ≡ 10 → ⊥) → blank b ≡ false
-unfolding between
-kept-run b e h = rw (ne-eqb b 10 h) at e
 
 -- no number is written as a line feed
 feed-no-number : (n : ℕ) → 10 ∷ [] ≡ decimal n → ⊥
@@ -181,7 +174,7 @@ module _ (text : List ℕ) where
               inside = omega arith;
             },
           ))
-          (λ t. (stop Unpadded text at, run-at Unpadded at h l (kept-run _ e (λ q. both-ways (eq-eqb _ _ q) t))))
+          (λ t. (stop Unpadded text at, run-at Unpadded at h l (no-feed Unpadded _ (λ q. both-ways (eq-eqb _ _ q) t) ∙ e)))
 
   module _ (form : Form) where
     pub wrong-found : (items : List Item) (at place : ℕ) → at ≤ length text → mismatch form text at items ≡ some place → FirstWrong form text at items place

@@ -13,7 +13,7 @@ use Rattle.tokens.specs.declared.Step.{Step}
 use Rattle.tokens.specs.declared.Step.the-variants.{Next, Wrong}
 use Rattle.tokens.specs.declared.Form.{Form}
 use Rattle.tokens.specs.declared.Form.the-variants.{Padded, Unpadded}
-use Rattle.tokens.specs.Tokens.{Item, numeral, line-end, lineEnd, start, tokenAt, right, behind, mismatch}
+use Rattle.tokens.specs.Tokens.{Item, numeral, line-end, ending, start, tokenAt, right, behind, mismatch}
 use Rattle.tokens.specs.Steps.{expectAt, andThen, readLine, expectAfter, readAfter, mismatchAfter}
 use Rattle.tokens.proofs.Runs.{start-le, start-end, tokenAt-le, token-end, number-none}
 
@@ -123,13 +123,13 @@ only (Next c) = refl
 only (Wrong p) = refl
 
 module _ (form : Form) (text : List ℕ) (f : Step) where
-  pub end-padded : form ≡ Padded → f ≡ readAfter form text f (lineEnd form)
+  pub end-padded : form ≡ Padded → f ≡ readAfter form text f (ending form)
   unfolding readLine
   end-padded e = rw e (sym (only f))
 
-  pub end-feed : (c : Cursor) → form ≡ Unpadded → f ≡ Next c → (r : Step) → r ≡ expectAt form text (c .at) line-end → r ≡ readAfter form text f (lineEnd form)
+  pub end-feed : (c : Cursor) → form ≡ Unpadded → f ≡ Next c → (r : Step) → r ≡ expectAt form text (c .at) line-end → r ≡ readAfter form text f (ending form)
   unfolding readLine
   end-feed c e g r h = rw (e, g) (rw e at h ∙ sym (only (expectAt Unpadded text (c .at) line-end)))
 
-  pub end-wrong : (p : ℕ) → f ≡ Wrong p → Wrong p ≡ readAfter form text f (lineEnd form)
+  pub end-wrong : (p : ℕ) → f ≡ Wrong p → Wrong p ≡ readAfter form text f (ending form)
   end-wrong p e = rw e

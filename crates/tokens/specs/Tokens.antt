@@ -54,9 +54,9 @@ pub data Item : Type 0 where
   line-end : Item
 
 -- what is expected at a line's end: a line feed in the unpadded form, nothing in the padded one
-abbrev pub lineEnd : Form → List Item
-lineEnd Padded = []
-lineEnd Unpadded = line-end ∷ []
+abbrev pub ending : Form → List Item
+ending Padded = []
+ending Unpadded = line-end ∷ []
 
 -- the next token from a place on is the item
 abbrev pub right : Form → List ℕ → ℕ → Item → Bool

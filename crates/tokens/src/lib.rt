@@ -3,7 +3,7 @@ ghost use mathlib.Core.Path.{_≡_};
 ghost use Prim.Native.Nat.{_+_, _≤_};
 ghost use lib.ListN.{length};
 ghost use Rattle.decimal.specs.Decimal.{decimal};
-ghost use Rattle.tokens.specs.Tokens.{blank, between, start, tokenAt, same, numeral, line-end, lineEnd};
+ghost use Rattle.tokens.specs.Tokens.{blank, between, start, tokenAt, same, numeral, line-end, ending};
 ghost use Rattle.tokens.specs.Steps.{expectAt, expectAfter, readAfter};
 
 // The two forms of an alist (document 02, slip 1). Padded: short lists are filled up with 0, and a line feed is a blank.
@@ -149,7 +149,7 @@ fn expect_feed(text: &[u8], form: Form, c: Cursor) -> Step
 
 // The end of a line behind a step: in the unpadded form a line feed comes next, in the padded one nothing is asked.
 pub fn end_line(text: &[u8], form: Form, step: Step) -> Step
-    ensures { λ r. ⌜ r ≡ readAfter form (now (text .entry)) step (lineEnd form) ⌝ }
+    ensures { λ r. ⌜ r ≡ readAfter form (now (text .entry)) step (ending form) ⌝ }
 {
     match form {
         Form::Padded => step,

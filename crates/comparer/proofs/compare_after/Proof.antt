@@ -4,7 +4,7 @@ use mathlib.Core.List.{List, _++_}
 use borrow.Author.Needs.{needs}
 use Rattle.exponent.specs.Tanner.{graphOf}
 use Rattle.tokens.specs.declared.Step.{Step}
-use Rattle.tokens.specs.Tokens.{Item, lineEnd}
+use Rattle.tokens.specs.Tokens.{Item, ending}
 use Rattle.tokens.specs.Steps.{mismatchAfter}
 use Rattle.tokens.proofs.Reading.{after-items}
 use Rattle.lines.specs.Text.{itemsOf}
@@ -24,11 +24,11 @@ left t s xs = verdict (mismatchAfter (t .args .form) (t .args .text .now) s xs)
 
 -- behind the end of the first line, at a step s, these come
 told : (c : tie.After-end-line) (s : Step) → c .end-line .result ≡ s
-    → let t = c .before .before in left t s (rest t) ≡ left t (t .args .step) (lineEnd (t .args .form) ++ rest t)
+    → let t = c .before .before in left t s (rest t) ≡ left t (t .args .step) (ending (t .args .form) ++ rest t)
 told c s e =
     let t = c .before .before in
     ap (λ (r : Step). left t r (rest t)) (sym e ∙ c .end-line .ensures)
-    ∙ ap verdict (after-items (t .args .form) (t .args .text .now) (t .args .step) (lineEnd (t .args .form)) (rest t))
+    ∙ ap verdict (after-items (t .args .form) (t .args .text .now) (t .args .step) (ending (t .args .form)) (rest t))
 
 end-line-requires : tie.Need-end-line-requires
 end-line-requires c κs = search needs

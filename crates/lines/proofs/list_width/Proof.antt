@@ -17,7 +17,7 @@ enum-told-2 : tie.Need-enum-told-2
 enum-told-2 c = search needs
 
 div-weight : tie.Need-div-weight
-div-weight c = c .before .before .before .before .before .pre .0 .ready .well .some-lift
+div-weight c = let t = c .before .before .before .before .before in t .pre .0 .ready .well .some-lift
 
 weight-requires : tie.Need-weight-requires
 weight-requires c κs =

@@ -41,10 +41,14 @@ returns-2 : tie.Need-returns-2
 returns-2 c = sym (ap (wide (c .before .before .before .before)) (c .enum-told2 .given .1))
 
 returns-3 : tie.Need-returns-3
-returns-3 c = c .node-count .ensures ∙ sym (ap (wide (c .before .before .before .before .before .before)) (c .before .before .line .given .1))
+returns-3 c =
+    let t = c .before .before .before .before .before .before in
+    c .node-count .ensures ∙ sym (ap (wide t) (c .before .before .line .given .1))
 
 returns-4 : tie.Need-returns-4
-returns-4 c = c .list-width .ensures ∙ sym (ap (wide (c .before .before .before .before .before .before)) (c .before .before .line2 .given .1))
+returns-4 c =
+    let t = c .before .before .before .before .before .before in
+    c .list-width .ensures ∙ sym (ap (wide t) (c .before .before .line2 .given .1))
 
 pub width-spec : {M : Type 1} → statement M
 width-spec =

@@ -44,7 +44,7 @@ use Rattle.exponent.specs.Tanner.{graphOf}
 use Rattle.exponent.proofs.Shape as E
 use Rattle.exponent.proofs.Shape.Laws as E′
 use Rattle.tokens.specs.declared.Form.{Form}
-use Rattle.tokens.specs.Tokens.{lineEnd}
+use Rattle.tokens.specs.Tokens.{ending}
 use Rattle.tokens.specs.Steps.{mismatchAfter}
 use Rattle.tokens.proofs.Form as F
 use Rattle.tokens.proofs.Form.Laws as F′
@@ -100,7 +100,7 @@ module _ {M : Type 1} (𝓤 : URA M) (H : Heap 𝓤) (A : Atoms 𝓤) (W : Given
   ve = E′.lowered e
 
   abbrev found : Verdict
-  found = verdict (mismatchAfter form (now (d .text)) (d .step) (lineEnd form ++ itemsOf form (laterLines form (graphOf (now s) e))))
+  found = verdict (mismatchAfter form (now (d .text)) (d .step) (ending form ++ itemsOf form (laterLines form (graphOf (now s) e))))
 
   abbrev at : Vals compare.signature κs
   at = (mach ∷ [], (formVal form ∷ [], (vs ∷ [], (ve ∷ [], tt))))

@@ -45,7 +45,7 @@ use Rattle.exponent.proofs.Shape as E
 use Rattle.exponent.proofs.Shape.Laws as E′
 use Rattle.tokens.specs.declared.Form.{Form}
 use Rattle.tokens.specs.Tokens as tokens
-use Rattle.tokens.specs.Tokens.{numeral, lineEnd, mismatch}
+use Rattle.tokens.specs.Tokens.{numeral, ending, mismatch}
 use Rattle.tokens.specs.Steps.{atStart, expectAfter}
 use Rattle.tokens.proofs.Form as F
 use Rattle.tokens.proofs.Form.Laws as F′
@@ -117,7 +117,7 @@ module _ {M : Type 1} (𝓤 : URA M) (H : Heap 𝓤) (A : Atoms 𝓤) (W : Given
   ve = E′.lowered e
 
   abbrev later-items : List tokens.Item
-  later-items = lineEnd form ++ itemsOf form (laterLines form (graphOf (now p) e))
+  later-items = ending form ++ itemsOf form (laterLines form (graphOf (now p) e))
 
   abbrev found : Verdict
   found = verdict (mismatch form (now s) 0 (numeral m ∷ numeral n ∷ later-items))
