@@ -1,6 +1,7 @@
 -- Tokens in words: the comparer's tests find the next token and the first wrong one, as row 21 says it, in both forms. Assumes nothing.
 use Prim.Native.Nat.{ℕ, _+_, _-_, _%_, _≤_, _<_}
 use mathlib.Core.Path.{_≡_, refl, sym, ap, subst, _∙_}
+use mathlib.Core.Logic.{_↔_}
 use mathlib.Core.Bool.{true, false}
 use mathlib.Core.List.{List, [], _∷_, _++_}
 use mathlib.Core.Option.{some}
@@ -110,35 +111,30 @@ module _ (text : List ℕ) where
       starts : start form text at ≡ first
       starts = start-is form text at first (t .onward) inner (λ k p q. between-found form (getD text k 0) (t .between k p q)) (begun form end (t .token) .1)
 
-      -- the token is right exactly where it says what is expected, and ends where reading goes on
-      right-says : (x : Item) → right form text at x ≡ true → Says text first end x × (behind form text at x ≡ end)
-      right-says x e = by-token form end x (t .token) starts (t .inside) e
+      -- the token is right exactly where it says what is expected, and then reading goes on behind it
+      right-exactly : (x : Item) → ((right form text at x ≡ true) ↔ Says text first end x) × (right form text at x ≡ true → behind form text at x ≡ end)
+      right-exactly x = by-token form end x (t .token) starts (t .inside)
         where
-          by-token : (form : Form) (end : ℕ) (x : Item) → IsToken text first form end → start form text at ≡ first → end ≤ length text → right form text at x ≡ true
-              → Says text first end x × (behind form text at x ≡ end)
-          by-token f e (numeral n) (run form end longer bytes whole) q inside r =
+          by-token : (form : Form) (end : ℕ) (x : Item) → IsToken text first form end → start form text at ≡ first → end ≤ length text
+              → ((right form text at x ≡ true) ↔ Says text first end x) × (right form text at x ≡ true → behind form text at x ≡ end)
+          by-token f e (numeral n) (run form end longer bytes whole) q inside =
               let ends = token-is text first end (omega arith) inside (λ k p q. no-blank (getD text k 0) (bytes k p q)) (λ q. blank-found (whole q)) in
-              (token-part text first end (sym ends) ∙ ap (tokenAt text) (sym q) ∙ same-exactly _ _ .0 r, rw q ends)
-          by-token f e line-end (run form end longer bytes whole) q inside r =
-              absurd (bytes first (omega arith) longer (blank-feed first (eqb-true (getD text first 0) 10 (rw q at r))))
-          by-token f e (numeral n) (feed b) q inside r =
-              let none-there = token-stop text first (omega arith) (blank-found (blank-feed first b)) in
-              both-ways r (sym (number-none _ n (ap length (ap (tokenAt text) q ∙ none-there))))
-          by-token f e line-end (feed b) q inside r = (one-byte first (omega arith) ∙ ap (λ (k : ℕ). k ∷ []) b, rw q)
-
-      says-right : (x : Item) → Says text first end x → right form text at x ≡ true
-      says-right x e = by-token form end x (t .token) starts (t .inside) e
-        where
-          by-token : (form : Form) (end : ℕ) (x : Item) → IsToken text first form end → start form text at ≡ first → end ≤ length text → Says text first end x → right form text at x ≡ true
-          by-token f e (numeral n) (run form end longer bytes whole) q inside r =
-              let ends = token-is text first end (omega arith) inside (λ k p q. no-blank (getD text k 0) (bytes k p q)) (λ q. blank-found (whole q)) in
-              same-exactly _ _ .1 (ap (tokenAt text) q ∙ sym (token-part text first end (sym ends)) ∙ r)
-          by-token f e line-end (run form end longer bytes whole) q inside r = absurd (bytes first (omega arith) longer (blank-feed first (first-byte first end 10 longer r)))
-          by-token f e (numeral n) (feed b) q inside r = absurd (feed-no-number n (sym (one-byte first (omega arith) ∙ ap (λ (k : ℕ). k ∷ []) b) ∙ r))
-          by-token f e line-end (feed b) q inside r = rw q (eq-eqb (getD text first 0) 10 b)
+              let same-bytes = ap (tokenAt text) q ∙ sym (token-part text first end (sym ends)) in
+              ((λ r. sym same-bytes ∙ same-exactly _ _ .0 r, λ says. same-exactly _ _ .1 (same-bytes ∙ says)), λ r. rw q ends)
+          by-token f e line-end (run form end longer bytes whole) q inside =
+              let no-feed-here : getD text first 0 ≡ 10 → ⊥ = λ b. bytes first (omega arith) longer (blank-feed first b) in
+              let wrong-here : right form text at line-end ≡ true → ⊥ = λ r. no-feed-here (eqb-true (getD text first 0) 10 (rw q at r)) in
+              ((λ r. absurd (wrong-here r), λ says. absurd (no-feed-here (first-byte first end 10 longer says))), λ r. absurd (wrong-here r))
+          by-token f e (numeral n) (feed b) q inside =
+              let none-there = ap (tokenAt text) q ∙ token-stop text first (omega arith) (blank-found (blank-feed first b)) in
+              let wrong-here : right Unpadded text at (numeral n) ≡ true → ⊥ = λ r. both-ways r (sym (number-none _ n (ap length none-there))) in
+              let one = one-byte first (omega arith) ∙ ap (λ (k : ℕ). k ∷ []) b in
+              ((λ r. absurd (wrong-here r), λ says. absurd (feed-no-number n (sym one ∙ says))), λ r. absurd (wrong-here r))
+          by-token f e line-end (feed b) q inside =
+              ((λ r. one-byte first (omega arith) ∙ ap (λ (k : ℕ). k ∷ []) b, λ says. rw q (eq-eqb (getD text first 0) 10 b)), λ r. rw q)
 
       right-not : (x : Item) → (Says text first end x → ⊥) → right form text at x ≡ false
-      right-not x h = by-bool (right form text at x) (λ e. absurd (h (right-says x e .0))) (λ e. e)
+      right-not x h = by-bool (right form text at x) (λ e. absurd (h (right-exactly x .0 .0 e))) (λ e. e)
 
     -- where the text has come to its end, no token is right
     none-right : (at : ℕ) (x : Item) → start form text at ≡ length text → right form text at x ≡ false
@@ -154,8 +150,9 @@ module _ (text : List ℕ) where
         let e = start-none form text at h (λ k p q. between-found form (getD text k 0) (all k p q)) in
         rw (none-right at x e, e)
     found-wrong l a p (go-on at first end x xs place t says rest) h =
-        let r = says-right at first end t x says in
-        rw (r, right-says at first end t x r .1) (found-wrong xs end place rest (t .inside))
+        let exactly = right-exactly at first end t x in
+        let r = exactly .0 .1 says in
+        rw (r, exactly .1 r) (found-wrong xs end place rest (t .inside))
 
   -- where a token comes
   token-comes : (form : Form) (at : ℕ) → at ≤ length text → start form text at < length text → (end : ℕ) × NextToken form text at (start form text at) end
@@ -196,13 +193,13 @@ module _ (text : List ℕ) where
         subst (FirstWrong form text at (x ∷ xs)) q (early at x xs (λ k p q. between-is form (getD text k 0) (before-start form text at k p (omega arith)))))
         (λ k.
         let t = token-comes form at h k in
+        let exactly = right-exactly form at (start form text at) (t .0) (t .1) x in
         by-bool (right form text at x)
         (λ r.
-        let y = right-says form at (start form text at) (t .0) (t .1) x r in
-        go-on at (start form text at) (t .0) x xs place (t .1) (y .0)
-        (wrong-found xs (t .0) place (t .1 .inside) (rw (y .1) at (rw r at e))))
+        go-on at (start form text at) (t .0) x xs place (t .1) (exactly .0 .0 r)
+        (wrong-found xs (t .0) place (t .1 .inside) (rw (exactly .1 r) at (rw r at e))))
         (λ r.
         let f = rw r at e in
         let q : start form text at ≡ place = cc in
         subst (FirstWrong form text at (x ∷ xs)) q
-        (wrong at (start form text at) (t .0) x xs (t .1) (λ says. both-ways (says-right form at (start form text at) (t .0) (t .1) x says) r))))
+        (wrong at (start form text at) (t .0) x xs (t .1) (λ says. both-ways (exactly .0 .1 says) r))))
