@@ -151,38 +151,36 @@ unfolding same
 same-empty [] = refl
 same-empty (x ∷ xs) = sym (ne-eqb (suc (length xs)) 0 (omega arith))
 
-module _ (w : List ℕ) (n : ℕ) where
-  pub number-none : length w ≡ 0 → false ≡ same w (decimal n)
-  number-none e = let q : w ≡ [] = nil w e in rw (q, decimal-ends n .1) (sym (same-nil (decimal-ends n .0) (digit (n % 10))))
-    where
-      nil : (l : List ℕ) → length l ≡ 0 → l ≡ []
-      nil [] h = refl
-      nil (x ∷ l) h = absurd (omega arith)
+pub number-none : (w : List ℕ) (n : ℕ) → length w ≡ 0 → false ≡ same w (decimal n)
+number-none w n e = let q : w ≡ [] = nil w e in rw (q, decimal-ends n .1) (sym (same-nil (decimal-ends n .0) (digit (n % 10))))
+  where
+    nil : (l : List ℕ) → length l ≡ 0 → l ≡ []
+    nil [] h = refl
+    nil (x ∷ l) h = absurd (omega arith)
 
-  split-last : (length w ≡ 0 → ⊥) → w ≡ take (length w - 1) w ++ getD w (length w - 1) 0 ∷ []
-  split-last h =
-      let e : length w ≡ suc (length w - 1) = omega arith in
-      sym (take-length w) ∙ ap (λ (k : ℕ). take k w) e ∙ take-suc w (length w - 1) 0 (omega arith)
+-- THE FIRST i BYTES, by the last of them
+module _ (w : List ℕ) (i n : ℕ) (h : i ≤ length w) (more : 0 < i) where
+  split-last : take i w ≡ take (i - 1) w ++ getD w (i - 1) 0 ∷ []
+  split-last = let e : i ≡ suc (i - 1) = omega arith in ap (λ (k : ℕ). take k w) e ∙ take-suc w (i - 1) 0 (omega arith)
 
-  -- by the last byte
-  by-last : (length w ≡ 0 → ⊥) → (hs : List ℕ) → decimal n ≡ hs ++ digit (n % 10) ∷ []
-      → same w (decimal n) ≡ cond (eqb (getD w (length w - 1) 0) (digit (n % 10))) (same (take (length w - 1) w) hs) false
-  by-last h hs e =
-      ap (λ (l : List ℕ). same l (decimal n)) (split-last h) ∙ ap (same (take (length w - 1) w ++ getD w (length w - 1) 0 ∷ [])) e
-      ∙ same-snoc (take (length w - 1) w) hs (getD w (length w - 1) 0) (digit (n % 10))
+  by-last : (hs : List ℕ) → decimal n ≡ hs ++ digit (n % 10) ∷ []
+      → same (take i w) (decimal n) ≡ cond (eqb (getD w (i - 1) 0) (digit (n % 10))) (same (take (i - 1) w) hs) false
+  by-last hs e =
+      ap (λ (l : List ℕ). same l (decimal n)) split-last ∙ ap (same (take (i - 1) w ++ getD w (i - 1) 0 ∷ [])) e
+      ∙ same-snoc (take (i - 1) w) hs (getD w (i - 1) 0) (digit (n % 10))
 
-  pub number-wrong : (length w ≡ 0 → ⊥) → (getD w (length w - 1) 0 ≡ digit (n % 10) → ⊥) → false ≡ same w (decimal n)
-  number-wrong h ne = sym (by-last h (decimal-ends n .0) (decimal-ends n .1) ∙ ap (λ (t : Bool). cond t (same (take (length w - 1) w) (decimal-ends n .0)) false) (ne-eqb _ _ ne))
+  pub number-wrong : (getD w (i - 1) 0 ≡ digit (n % 10) → ⊥) → false ≡ same (take i w) (decimal n)
+  number-wrong ne = sym (by-last (decimal-ends n .0) (decimal-ends n .1) ∙ ap (λ (t : Bool). cond t (same (take (i - 1) w) (decimal-ends n .0)) false) (ne-eqb _ _ ne))
 
-  pub number-one : (length w ≡ 0 → ⊥) → getD w (length w - 1) 0 ≡ digit (n % 10) → n < 10 → eqb (length w - 1) 0 ≡ same w (decimal n)
-  number-one h e s =
+  pub number-one : getD w (i - 1) 0 ≡ digit (n % 10) → n < 10 → eqb (i - 1) 0 ≡ same (take i w) (decimal n)
+  number-one e s =
       let m : n ≡ n % 10 = omega arith in
       let d : decimal n ≡ [] ++ digit (n % 10) ∷ [] = decimal-small n s ∙ ap (λ (k : ℕ). digit k ∷ []) m in
-      sym (by-last h [] d ∙ ap (λ (t : Bool). cond t (same (take (length w - 1) w) []) false) (eq-eqb _ _ e)
-      ∙ same-empty (take (length w - 1) w) ∙ ap (λ (k : ℕ). eqb k 0) (length-take-le (length w - 1) w (omega arith)))
+      sym (by-last [] d ∙ ap (λ (t : Bool). cond t (same (take (i - 1) w) []) false) (eq-eqb _ _ e)
+      ∙ same-empty (take (i - 1) w) ∙ ap (λ (k : ℕ). eqb k 0) (length-take-le (i - 1) w (omega arith)))
 
-  pub number-more : (length w ≡ 0 → ⊥) → getD w (length w - 1) 0 ≡ digit (n % 10) → 10 ≤ n → same (take (length w - 1) w) (decimal (n / 10)) ≡ same w (decimal n)
-  number-more h e s = sym (by-last h (decimal (n / 10)) (decimal-step n s) ∙ ap (λ (t : Bool). cond t (same (take (length w - 1) w) (decimal (n / 10))) false) (eq-eqb _ _ e))
+  pub number-more : getD w (i - 1) 0 ≡ digit (n % 10) → 10 ≤ n → same (take (i - 1) w) (decimal (n / 10)) ≡ same (take i w) (decimal n)
+  number-more e s = sym (by-last (decimal (n / 10)) (decimal-step n s) ∙ ap (λ (t : Bool). cond t (same (take (i - 1) w) (decimal (n / 10))) false) (eq-eqb _ _ e))
 
 -- what the next token is, from its first byte s, its end e and the comparison r
 module _ (form : Form) (text : List ℕ) (at n s e : ℕ) (r : Bool) (p : s ≡ start form text at) (q : e ≡ s + length (tokenAt text s)) (c : r ≡ same (take (e - s) (drop s text)) (decimal n)) where

@@ -82,22 +82,23 @@ pub fn token_end(text: &[u8], at: usize) -> usize
     i
 }
 
-// Whether bytes are a number in decimal: its last digit, and before it the digits of its tenth.
+// Whether bytes are a number in decimal: from the last byte on, each is the last digit of what is left of the number.
 fn is_number(word: &[u8], n: usize) -> bool
     ensures { λ r. ⌜ r ≡ same (now (word .entry)) (decimal n) ⌝ }
 {
-    let len = word.len();
-    if len == 0 {
-        return false;
+    let mut rest = n;
+    let mut i = word.len();
+    while 0 < i {
+        i -= 1;
+        if word[i] != 48 + ((rest % 10) as u8) {
+            return false;
+        }
+        if rest < 10 {
+            return i == 0;
+        }
+        rest = rest / 10;
     }
-    let last = len - 1;
-    if word[last] != 48 + ((n % 10) as u8) {
-        return false;
-    }
-    if n < 10 {
-        return last == 0;
-    }
-    is_number(&word[..last], n / 10)
+    false
 }
 
 // Holds the next token to a number.
