@@ -35,9 +35,9 @@ uint64_t qcldpc_check(const int16_t *plan, size_t plan_len, uint64_t rows, uint6
                       uint64_t *out, size_t out_len);
 
 /* The girth test: whether no simple cycle has fewer edges than the target (6, 8, 10 or 12). Refusals 1 to 6, 14.
- * out[0] is 0 where the plan passes. Else it is n, from 2 to 5, of a cycle of 2n edges: out[1 + k] is its check k and
- * out[9 + k] its bit k; check k joins bit k, bit k joins check k + 1, the last bit joins check 0. All five places of
- * checks and of bits are written, those not used with 0. */
+ * out[0] is 0 where the plan passes. Else it is n, from 2 to 5, of a shortest cycle, so that 2n is the girth: out[1 + k] is
+ * its check k and out[9 + k] its bit k; check k joins bit k, bit k joins check k + 1, the last bit joins check 0. Which of
+ * the shortest is shown is free. All five places of checks and of bits are written, those not used with 0. */
 uint64_t qcldpc_girth(const int16_t *plan, size_t plan_len, uint64_t rows, uint64_t cols, uint64_t lift,
                       uint64_t target, uint64_t *out, size_t out_len);
 

@@ -22,12 +22,15 @@ static void plans(void)
 {
     const int16_t bad[2] = {0, 2};
     const int16_t zeros[4] = {0, 0, 0, 0};
+    const int16_t two_lengths[6] = {0, 0, 0, 0, 1, 1};
     EXPECT(qcldpc_check(plan, 2, 1, 2, 2, out, QCLDPC_OUT) == 0);
     EXPECT(qcldpc_check(bad, 2, 1, 2, 2, out, QCLDPC_OUT) == 6 && out[0] == 1);
     EXPECT(qcldpc_check(plan, 2, 1, 2, 4097, out, QCLDPC_OUT) == 3);
     EXPECT(qcldpc_girth(plan, 2, 1, 2, 2, 12, out, QCLDPC_OUT) == 0 && out[0] == 0);
     EXPECT(qcldpc_girth(zeros, 4, 2, 2, 1, 6, out, QCLDPC_OUT) == 0 && out[0] == 2);
     EXPECT(out[1] + out[2] == 1 && out[9] + out[10] == 1);
+    /* columns 0 and 1 have a cycle of 8 edges, columns 1 and 2 one of 4: the girth is 4 */
+    EXPECT(qcldpc_girth(two_lengths, 6, 2, 3, 2, 12, out, QCLDPC_OUT) == 0 && 2 * out[0] == 4);
     EXPECT(qcldpc_girth(plan, 2, 1, 2, 2, 14, out, QCLDPC_OUT) == 14);
 }
 

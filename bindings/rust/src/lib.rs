@@ -12,6 +12,7 @@
 //!
 //! let plan = Plan { entries: &[0, 0, 0, 0, 1, 2, 0, 2, 1], rows: 3, cols: 3, lift: 3 };
 //! assert_eq!(girth(&plan, 6), Ok(Girth::Passed));
+//! assert_eq!(girth(&plan, 12).unwrap().girth(), Some(6));
 //!
 //! let mut word = [2, 1, 1, 2, 0, 0, 1, 1, 2];
 //! assert_eq!(fill(&plan, &mut word), Ok(Fill { filled: 3, left: 0 }));
@@ -85,8 +86,19 @@ impl std::error::Error for Refusal {}
 pub enum Girth {
     /// No simple cycle has fewer edges than the target.
     Passed,
-    /// A simple cycle with fewer: check `k` joins bit `k`, bit `k` joins check `k + 1`, the last bit joins check 0.
+    /// A shortest simple cycle: check `k` joins bit `k`, bit `k` joins check `k + 1`, the last bit joins check 0.
     Failed { checks: Vec<usize>, bits: Vec<usize> },
+}
+
+impl Girth {
+    /// The girth of a plan that fails: how many edges the shown cycle has, and no simple cycle has fewer. `None` where the plan
+    /// passes; its girth, if it has a cycle, is then the target or more.
+    pub fn girth(&self) -> Option<usize> {
+        match self {
+            Girth::Passed => None,
+            Girth::Failed { checks, .. } => Some(2 * checks.len()),
+        }
+    }
 }
 
 /// The answer of the syndrome check.
@@ -120,7 +132,19 @@ pub fn check(plan: &Plan) -> Result<(), Refusal> {
     call(|out, len| unsafe { raw::qcldpc_check(p, n, rows, cols, lift, out, len) }, |_| ())
 }
 
-/// Whether no simple cycle has fewer edges than the target: 6, 8, 10 or 12. Refusals 1 to 6, 14.
+/// Whether no simple cycle has fewer edges than the target: 6, 8, 10 or 12. Where a plan fails, a shortest cycle is shown, so
+/// the answer tells its girth; which of the shortest it is, is free. Refusals 1 to 6, 14.
+///
+/// The plan here has cycles of 8 edges and none shorter:
+///
+/// ```
+/// use qcldpc::{girth, Girth, Plan};
+///
+/// let plan = Plan { entries: &[0, 0, 0, 1], rows: 2, cols: 2, lift: 2 };
+/// assert_eq!(girth(&plan, 8), Ok(Girth::Passed));
+/// assert_eq!(girth(&plan, 12)?.girth(), Some(8));
+/// # Ok::<(), qcldpc::Refusal>(())
+/// ```
 pub fn girth(plan: &Plan, target: usize) -> Result<Girth, Refusal> {
     let (p, n, rows, cols, lift) = plan.lent();
     call(

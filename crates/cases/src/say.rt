@@ -31,7 +31,10 @@ pub fn refused(r: Refusal) {
     }
 }
 
-// The verdict at a target.
+// The largest target: a plan that fails there shows its girth.
+pub const LARGEST: usize = 12;
+
+// The verdict at a target; of a plan that fails, its girth.
 pub fn judged(plan: &[i16], rows: usize, cols: usize, lift: usize, target: usize) {
     let t = girth::test(plan, rows, cols, lift, target);
     let outcome = t.outcome;
@@ -39,7 +42,7 @@ pub fn judged(plan: &[i16], rows: usize, cols: usize, lift: usize, target: usize
         Outcome::Passed => number(b"passes ", target),
         Outcome::Failed => {
             number(b"fails ", target);
-            number(b" with a cycle of ", 2 * short(t.n));
+            number(b" with girth ", 2 * short(t.n));
         }
         Outcome::Refused(r) => refused(r),
     }

@@ -1,7 +1,8 @@
 // The degree matrices of source 000, Tables II to V: 3 rows and K columns, with zeros in the first column and the last
 // row. What is left, W', stands here as printed there, under its table, K and M, its rows filled up with 0 to 11 places.
-// Each is judged at its printed girth and, where that is below 12, at the next target.
+// Each is judged at its printed girth and, where that is below the largest target, there.
 ghost use Prim.Native.Nat.{_≤_};
+use crate::say::LARGEST;
 use crate::say::judged;
 use crate::say::number;
 use crate::say::say;
@@ -274,7 +275,7 @@ fn verdict(plan: [i16; 36], cols: usize, lift: usize, target: usize)
     judged(&plan[0..size], 3, cols, lift, target);
 }
 
-// Judges a code at its girth and at the next target; K = `cols`, M = `lift`.
+// Judges a code at its girth and at the largest target; K = `cols`, M = `lift`.
 fn code(girth: usize, cols: usize, lift: usize, rows: [[i16; 11]; 2])
     requires { ⌜ cols ≤ 12 ⌝ }
 {
@@ -287,9 +288,9 @@ fn code(girth: usize, cols: usize, lift: usize, rows: [[i16; 11]; 2])
     number(b", M = ", lift);
     say(b": ");
     verdict(plan, cols, lift, girth);
-    if girth < 12 {
+    if girth < LARGEST {
         say(b", ");
-        verdict(plan, cols, lift, girth + 2);
+        verdict(plan, cols, lift, LARGEST);
     }
     say(b"\n");
 }

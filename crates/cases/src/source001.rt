@@ -1,6 +1,6 @@
 // Labelings of base matrix (6) of source 001 as plans of 6 rows and 8 columns, with -1 where (6) has 0. The i-th number
-// printed for a row stands at the row's i-th nonzero entry. Each is judged at its girth and at the next target.
-ghost use Prim.Native.Nat.{_≤_};
+// printed for a row stands at the row's i-th nonzero entry. Each is judged at its girth and at the largest target.
+use crate::say::LARGEST;
 use crate::say::judged;
 use crate::say::number;
 use crate::say::say;
@@ -50,17 +50,15 @@ fn verdict(plan: [i16; 48], lift: usize, target: usize) {
     judged(&plan, 6, 8, lift, target);
 }
 
-// Judges a labeling at its girth and at the next target; M = `lift`.
-fn labeling(girth: usize, lift: usize, rows: [[i16; 8]; 6])
-    requires { ⌜ girth ≤ 10 ⌝ }
-{
+// Judges a labeling at its girth and at the largest target; M = `lift`.
+fn labeling(girth: usize, lift: usize, rows: [[i16; 8]; 6]) {
     let mut plan = [0i16; 48];
     put_rows(rows, &mut plan);
     number(b", M = ", lift);
     say(b": ");
     verdict(plan, lift, girth);
     say(b", ");
-    verdict(plan, lift, girth + 2);
+    verdict(plan, lift, LARGEST);
     say(b"\n");
 }
 

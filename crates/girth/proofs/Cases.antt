@@ -1,18 +1,23 @@
--- The girth lines of document 01's bench cases: the model's answer, computed. Assumes nothing.
-use Prim.Native.Nat.{ℕ}
+-- The girth lines of document 01's bench cases, and a plan with cycles of two lengths: the model's answer, computed. Assumes nothing.
+use Prim.Native.Nat.{ℕ, _≤_}
 use mathlib.Core.Path.{_≡_, refl}
 use mathlib.Core.List.{List, [], _∷_}
+use mathlib.Core.Option.{none}
+use native.Mathlib.Omega.{arith}
 use lib.IntN.{ℤ}
 use Rattle.refusal.specs.declared.Refusal.the-variants.{Lift}
 use Rattle.refusal.specs.Lowest.{lowest}
 use Rattle.refusal.specs.Place.{firstPlace}
 use Rattle.graph.specs.Count.{member}
+use Rattle.graph.specs.Girth.{SimpleCycle, Passes}
+use Rattle.graph.proofs.Cases.{cycle-if}
 use Rattle.exponent.specs.Limits.{planRules}
 use Rattle.exponent.specs.Plan.{shifts, entryAt, blockAt}
+use Rattle.exponent.specs.Tanner.{tanner}
 use Rattle.walks.specs.Search.{firstOf, atCheck, closedWalk, trail}
 use Rattle.girth.specs.declared.GirthTest.{GirthTest}
 use Rattle.girth.specs.declared.Outcome.the-variants.{Passed, Failed, Refused}
-use Rattle.girth.specs.Test.{allowed, testRules, without-witness}
+use Rattle.girth.specs.Test.{allowed, testRules, without-witness, Answer, refused, passed, failed}
 use Rattle.girth.specs.Model.{shortest, model}
 
 pub record Case : Type 0 where
@@ -29,7 +34,12 @@ case l rows cols lift target answer = record { plan = shifts l; rows = rows; col
 abbrev shows : ℕ → List ℕ → List ℕ → GirthTest
 shows n checks bits = record { outcome = Failed; n = n; checks = checks; bits = bits }
 
--- the 2 × 2 plan of zeros; 0 0 / 0 1, which closes on the second round at lift 2; 0 0 / 0 2; 002's example 1; one row; lift 4,097
+-- 0 0 0 / 0 1 1: at lift 2 its columns 0 and 1 have a cycle of 8 edges, its columns 1 and 2 one of 4
+abbrev two-lengths : List ℕ
+two-lengths = 0 ∷ 0 ∷ 0 ∷ 0 ∷ 1 ∷ 1 ∷ []
+
+-- the 2 × 2 plan of zeros; 0 0 / 0 1, which closes on the second round at lift 2; 0 0 / 0 2; 002's example 1; one row; lift 4,097;
+-- cycles of two lengths
 abbrev pub cases : List Case
 cases =
     case (0 ∷ 0 ∷ 0 ∷ 0 ∷ []) 2 2 1 6 (shows 2 (0 ∷ 1 ∷ 0 ∷ 0 ∷ 0 ∷ []) (1 ∷ 0 ∷ 0 ∷ 0 ∷ 0 ∷ []))
@@ -40,6 +50,7 @@ cases =
     ∷ case (0 ∷ 0 ∷ 0 ∷ 0 ∷ 0 ∷ 0 ∷ 1 ∷ 1 ∷ 0 ∷ 1 ∷ 0 ∷ 1 ∷ []) 3 4 2 6 (shows 2 (0 ∷ 2 ∷ 0 ∷ 0 ∷ 0 ∷ []) (2 ∷ 0 ∷ 0 ∷ 0 ∷ 0 ∷ []))
     ∷ case (0 ∷ 0 ∷ 0 ∷ []) 1 3 4096 12 (without-witness Passed)
     ∷ case (0 ∷ []) 1 1 4097 12 (without-witness (Refused Lift))
+    ∷ case two-lengths 2 3 2 10 (shows 2 (0 ∷ 3 ∷ 0 ∷ 0 ∷ 0 ∷ []) (4 ∷ 2 ∷ 0 ∷ 0 ∷ 0 ∷ []))
     ∷ []
 
 abbrev pub Computed : List Case → Type 0
@@ -48,4 +59,20 @@ Computed (c ∷ l) = (model (c .plan) (c .rows) (c .cols) (c .lift) (c .target) 
 
 pub computed : Computed cases
 unfolding model lowest testRules planRules firstPlace allowed member entryAt blockAt shortest closedWalk firstOf atCheck trail
-computed = (refl, (refl, (refl, (refl, (refl, (refl, (refl, (refl, tt))))))))
+computed = (refl, (refl, (refl, (refl, (refl, (refl, (refl, (refl, (refl, tt)))))))))
+
+-- of the plan with two lengths every answer that the contract allows, however it was found, shows a cycle of 4 edges
+
+four-edges : SimpleCycle (tanner (shifts two-lengths) 2 3 2) 2 (0 ∷ 3 ∷ []) (4 ∷ 2 ∷ [])
+unfolding tanner blockAt entryAt
+four-edges = cycle-if (tanner (shifts two-lengths) 2 3 2) 0 (0 ∷ 3 ∷ []) (4 ∷ 2 ∷ []) refl refl refl refl refl refl refl
+
+taken : lowest (testRules (shifts two-lengths) 2 3 2 10) ≡ none
+unfolding lowest testRules planRules firstPlace allowed member entryAt
+taken = refl
+
+pub shows-four : {r : GirthTest} → Answer (shifts two-lengths) 2 3 2 10 r → r .n ≡ 2
+unfolding Passes
+shows-four (refused x e) = absurd (let h = taken in let z : _≡_ {A = ℕ} 0 1 = cc in omega arith)
+shows-four (passed e p) = absurd (let h : 10 ≤ 4 = p 2 _ _ four-edges in omega arith)
+shows-four (failed r e w) = omega (arith, w .none-shorter 2 _ _ four-edges, w .cycle .least)

@@ -24,7 +24,7 @@ use Rattle.exponent.proofs.Rules.{inside}
 use Rattle.walks.specs.Search.{Blocks, blocksOf, Joint, Result, closedWalk, trail}
 use Rattle.walks.proofs.Simple.{checksIn, bitsIn, met-cycle, found-cycle}
 use Rattle.girth.specs.declared.GirthTest.{GirthTest}
-use Rattle.girth.specs.declared.Outcome.the-variants.{Passed, Failed}
+use Rattle.girth.specs.declared.Outcome.the-variants.{Passed}
 use Rattle.girth.specs.Test.{targets, allowed, testRules, places, without-witness, Answer, passed, failed}
 use Rattle.girth.specs.Model.{witness, unlessFound, shortest}
 
@@ -133,13 +133,6 @@ module _ (plan : List ℤ) (s : Shape) (target : ℕ) (accepted : lowest (testRu
             failed = refl;
             short = omega (arith, asked .1 .even);
             cycle = subst₂ (SimpleCycle (graphOf plan s) n) (sym f) (sym g) y;
+            none-shorter = p;
             unused = λ k q. (u k q, v k q);
           })
-
-  -- and a cycle that it shows is a shortest one
-  pub shown-shortest : shortest (blocksOf plan s) (target / 2 - 2) 2 .outcome ≡ Failed → Passes (graphOf plan s) (2 * shortest (blocksOf plan s) (target / 2 - 2) 2 .n)
-  shown-shortest = go model-verdict
-    where
-      go : {r : GirthTest} → Verdict (graphOf plan s) (target / 2) r → r .outcome ≡ Failed → Passes (graphOf plan s) (2 * r .n)
-      go (passes p) e = absurd (let z : _≡_ {A = ℕ} 0 1 = cc in omega arith)
-      go (shows n l h size y p) e = p

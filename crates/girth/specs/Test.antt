@@ -38,12 +38,13 @@ places = 5
 abbrev pub without-witness : Outcome → GirthTest
 without-witness o = record { outcome = o; n = 0; checks = replicate places 0; bits = replicate places 0 }
 
--- A witness (shown cycle): n checks and n bits that form a simple cycle of fewer edges than the target; unused places are 0.
--- Which such cycle it is, is free.
+-- A witness (shown cycle): n checks and n bits that form a simple cycle of fewer edges than the target, and no simple cycle has
+-- fewer edges than it (document 02, slip 2); unused places are 0. Which of the shortest it is, is free.
 pub record Witness (G : Bipartite) (target : ℕ) (r : GirthTest) : Type 0 where
   pub failed : r .outcome ≡ Failed
   pub short : 2 * r .n < target
   pub cycle : SimpleCycle G (r .n) (take (r .n) (r .checks)) (take (r .n) (r .bits))
+  pub none-shorter : Passes G (2 * r .n)
   pub unused : (k : ℕ) → r .n ≤ k → (getD (r .checks) k 0 ≡ 0) × (getD (r .bits) k 0 ≡ 0)
 
 -- The answer is the lowest refusal that applies; else that the plan passes, and then it does; else a witness that it does not.

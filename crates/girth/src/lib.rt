@@ -19,7 +19,7 @@ pub enum Outcome {
     Refused(Refusal),
 }
 
-// The answer: where it is Failed, a witness cycle of n checks and n bits; all 0 otherwise and in the places not used.
+// The answer: where it is Failed, a shortest cycle, of n checks and n bits; all 0 otherwise and in the places not used.
 pub struct GirthTest {
     pub outcome: Outcome,
     pub n: usize,
@@ -63,7 +63,7 @@ fn test_valid(plan: &[i16], shape: Shape, target: usize) -> GirthTest
     rounds::shortest_below(plan, &down, &along, shape, target / 2)
 }
 
-// Whether no simple cycle has fewer edges than the target; else such a cycle.
+// Whether no simple cycle has fewer edges than the target; else a shortest cycle.
 pub fn test(plan: &[i16], rows: usize, cols: usize, lift: usize, target: usize) -> GirthTest
     ensures { λ r. ⌜ Answer (now (plan .entry)) rows cols lift target r ⌝ }
 {

@@ -11,7 +11,7 @@ use lib.Dec.{eqb, leb, ltb}
 use lib.ListN.{getD, length}
 use Rattle.graph.specs.Count.{range, below, select, count}
 use Rattle.graph.specs.Graph.{Bipartite, Joined, bitsOf, checksOf}
-use Rattle.graph.specs.Girth.{SimpleCycle, Passes}
+use Rattle.graph.specs.Girth.{SimpleCycle, Passes, IsGirth}
 use Rattle.graph.specs.Stopping.{Stopping, ThreeChecks, girth-6}
 use Rattle.graph.proofs.Decide.{by-eq, both-ways, and-left, and-right, and-both}
 use Rattle.graph.proofs.Tree.{stopping-least}
@@ -69,13 +69,21 @@ cycle-if G m cs bs a b f g h p q =
       bits-differ = differ-if bs (suc (suc m)) q;
     }
 
--- two checks that both join two bits: a cycle of 4 edges, so it fails at 6
+-- two checks that both join two bits: a cycle of 4 edges, so the girth is 4, and it fails at 6
 abbrev square : Bipartite
 square = record { checks = 2; bits = 2; joins = λ c b. true }
 
+square-cycle : SimpleCycle square 2 (0 ∷ 1 ∷ []) (0 ∷ 1 ∷ [])
+square-cycle = cycle-if square 0 (0 ∷ 1 ∷ []) (0 ∷ 1 ∷ []) refl refl refl refl refl refl refl
+
+pub square-girth : IsGirth square 4
+unfolding Passes
+square-girth =
+    record { n = 2; checks = 0 ∷ 1 ∷ []; bits = 0 ∷ 1 ∷ []; cycle = square-cycle; edges = refl; none-shorter = λ n cs bs y. omega (arith, y .least) }
+
 pub square-fails : ¬ Passes square 6
 unfolding Passes
-square-fails p = let h : 6 ≤ 4 = p 2 (0 ∷ 1 ∷ []) (0 ∷ 1 ∷ []) (cycle-if square 0 (0 ∷ 1 ∷ []) (0 ∷ 1 ∷ []) refl refl refl refl refl refl refl) in omega arith
+square-fails p = let h : 6 ≤ 4 = p 2 (0 ∷ 1 ∷ []) (0 ∷ 1 ∷ []) square-cycle in omega arith
 
 -- The Fano plane: check c joins the bits c, c + 1 and c + 3 modulo 7.
 abbrev pub fano : Bipartite
@@ -114,6 +122,18 @@ fano-passes =
     at : (c d a b : ℕ) → c < 7 → d < 7 → a < 7 → b < 7 → no-square? c d a b ≡ true
     at c d a b i j k l =
         all-at 7 (λ b. no-square? c d a b) (all-at 7 (λ a. all 7 (λ b. no-square? c d a b)) (all-at 7 (λ d. all 7 (λ a. all 7 (λ b. no-square? c d a b))) (all-at 7 (λ c. all 7 (λ d. all 7 (λ a. all 7 (λ b. no-square? c d a b)))) refl c i) d j) a k) b l
+
+-- three lines that meet in the points 1, 2 and 3: the girth is 6
+pub fano-girth : IsGirth fano 6
+fano-girth =
+    record {
+      n = 3;
+      checks = 0 ∷ 1 ∷ 2 ∷ [];
+      bits = 1 ∷ 2 ∷ 3 ∷ [];
+      cycle = cycle-if fano 1 (0 ∷ 1 ∷ 2 ∷ []) (1 ∷ 2 ∷ 3 ∷ []) refl refl refl refl refl refl refl;
+      edges = refl;
+      none-shorter = fano-passes;
+    }
 
 -- the bits off the line 0, 1, 3 are a stopping set, of 4 bits: the bound at 6 is reached
 abbrev pub off : ℕ → Bool

@@ -8,7 +8,7 @@ use native.Mathlib.Omega.{arith}
 use lib.ListN.{length, getD, length-append}
 use Rattle.graph.specs.Count.{Mem}
 use Rattle.graph.specs.Graph.{Bipartite, Joined}
-use Rattle.graph.specs.Girth.{SimpleCycle, Passes}
+use Rattle.graph.specs.Girth.{SimpleCycle, Passes, IsGirth}
 use Rattle.graph.proofs.Lists.{Nodup, last, nodup-turn, last-append, nodup-getD}
 use Rattle.graph.proofs.Walks.{Node, check, bit, Adj, Walk, Cycle, walk-left, last-adj}
 
@@ -174,3 +174,11 @@ module _ (G : Bipartite) where
   pub passes-none : (t m : ℕ) → Passes G t → m < t → Cycle G m → ⊥
   unfolding Passes
   passes-none t m p h y = let s : Short G m = short-cycle y in omega (arith, p (s .n) (s .cs) (s .bs) (s .cycle))
+
+  -- there is one girth at most: of two shortest cycles neither is shorter than the other
+  pub one-girth : (g h : ℕ) → IsGirth G g → IsGirth G h → g ≡ h
+  unfolding Passes
+  one-girth g h a b =
+      let p = a .none-shorter (b .n) (b .checks) (b .bits) (b .cycle) in
+      let q = b .none-shorter (a .n) (a .checks) (a .bits) (a .cycle) in
+      omega (arith, p, q, a .edges, b .edges)

@@ -1,4 +1,4 @@
--- Simple cycles, and what it is to pass at a target (document 01, "Girth verdict").
+-- Simple cycles, what it is to pass at a target (document 01, "Girth verdict"), and the girth.
 use Prim.Native.Nat.{ℕ, suc, pred, _*_, _≤_, _<_}
 use mathlib.Core.Path.{_≡_}
 use mathlib.Core.Logic.{_≢_}
@@ -21,3 +21,12 @@ pub record SimpleCycle (G : Bipartite) (n : ℕ) (checks bits : List ℕ) : Type
 -- no simple cycle has fewer edges than the target
 unfoldable pub Passes : Bipartite → ℕ → Type 0
 Passes G target = (n : ℕ) (checks bits : List ℕ) → SimpleCycle G n checks bits → target ≤ 2 * n
+
+-- g is the girth, the least length: a simple cycle of g edges exists, and none is shorter
+pub record IsGirth (G : Bipartite) (g : ℕ) : Type 0 where
+  pub n : ℕ
+  pub checks : List ℕ
+  pub bits : List ℕ
+  pub cycle : SimpleCycle G n checks bits
+  pub edges : 2 * n ≡ g
+  pub none-shorter : Passes G g

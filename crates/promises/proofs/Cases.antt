@@ -1,5 +1,5 @@
 -- The starred bench cases hold: those of the girth test from what its model computes and promise 2, the others computed. Assumes nothing.
-use Prim.Native.Nat.{ℕ, suc, _*_, _≤_}
+use Prim.Native.Nat.{ℕ, _*_, _≤_}
 use mathlib.Core.Path.{_≡_, refl, sym, ap, subst, _∙_}
 use mathlib.Core.List.{List, [], _∷_}
 use mathlib.Core.Option.{some}
@@ -13,9 +13,9 @@ use Rattle.refusal.specs.Place.{firstPlace}
 use Rattle.refusal.proofs.Lowest.{lowest-here, lowest-next}
 use Rattle.graph.specs.Count.{range, select, count, member}
 use Rattle.graph.specs.Graph.{bitsOf, checksOf}
-use Rattle.graph.specs.Girth.{Passes}
 use Rattle.graph.specs.Erasure.{total, parity, any, only, peel, peels, largest}
 use Rattle.graph.specs.Filling.{forced, fillRound, fillRounds, filledWord, oddCheck, clash, filledCount, leftCount}
+use Rattle.graph.proofs.Cycles.{one-girth}
 use Rattle.exponent.specs.declared.block.Block.the-variants.{Shift}
 use Rattle.exponent.specs.Plan.{shifts, entryAt, blockAt}
 use Rattle.exponent.specs.Limits.{outside, planRules}
@@ -56,23 +56,17 @@ module _ (plan : List ℤ) (rows cols lift target : ℕ) where
     computed-answer : Answer plan rows cols lift target a
     computed-answer = subst (Answer plan rows cols lift target) e (model-answer plan rows cols lift target)
 
-    passes : a .outcome ≡ Passed → Passes (tanner plan rows cols lift) target
-    passes q = verdict plan rows cols lift target computed-answer .passed .0 q .1
-
     passing : a .outcome ≡ Passed → Passing plan rows cols lift target
     passing q r h = verdict plan rows cols lift target h .passed .1 (verdict plan rows cols lift target computed-answer .passed .0 q)
 
     failing : a .outcome ≡ Failed → Failing plan rows cols lift target
     failing q r h = verdict plan rows cols lift target h .failed .1 (verdict plan rows cols lift target computed-answer .failed .0 q)
 
-    -- a cycle of 2n edges, where there is none with fewer
-    failing-with : (n : ℕ) → target ≡ 2 * suc n → Passes (tanner plan rows cols lift) (2 * n) → a .outcome ≡ Failed → FailingWith (2 * n) plan rows cols lift target
-    unfolding Passes
-    failing-with n t least q r h =
+    -- and every answer shows as many edges, since both numbers are the girth
+    failing-with : a .outcome ≡ Failed → FailingWith (2 * a .n) plan rows cols lift target
+    failing-with q r h =
         let f = failing q r h in
-        let v = verdict plan rows cols lift target h in
-        let w = v .shown (v .failed .0 f .0) (λ p. let z : _≡_ {A = ℕ} 0 1 = cc in omega arith) in
-        (f, omega (arith, t, w .short, least (r .n) _ _ (w .cycle)))
+        (f, one-girth (tanner plan rows cols lift) _ _ (verdict plan rows cols lift target h .girth f) (verdict plan rows cols lift target computed-answer .girth q))
 
   turned-away : (x : Refusal) → lowest (testRules plan rows cols lift target) ≡ some x → {r : GirthTest} → Answer plan rows cols lift target r → r .outcome ≡ Refused x
   turned-away x e (refused y q) = let s : y ≡ x = cc in ap Refused s
@@ -86,10 +80,6 @@ lift-4097 plan cols h k =
     lowest-next (outside 1 192 1) Rows _ refl
     ∙ lowest-next (outside 1 512 cols) Cols _ (inside 1 512 cols .1 (h, k))
     ∙ lowest-here (outside 1 4096 4097) Lift _ refl
-
-zeros-least : Passes (tanner (shifts (0 ∷ 0 ∷ 0 ∷ 0 ∷ [])) 2 2 1) 4
-unfolding Passes
-zeros-least n cs bs y = omega (arith, y .least)
 
 -- TABLE PLANS
 
@@ -138,9 +128,9 @@ pub bench-cases : BenchCases
 bench-cases =
     let (c₀, (c₁, (c₂, (c₃, (c₄, (c₅, (c₆, _))))))) = computed in
     record {
-      zeros-fails-6 = failing-with _ 2 2 1 6 _ c₀ 2 refl zeros-least refl;
+      zeros-fails-6 = failing-with _ 2 2 1 6 _ c₀ refl;
       corner-passes-8 = passing _ 2 2 2 8 _ c₁ refl;
-      corner-fails-10 = failing-with _ 2 2 2 10 _ c₂ 4 refl (passes _ 2 2 2 8 _ c₁ refl) refl;
+      corner-fails-10 = failing-with _ 2 2 2 10 _ c₂ refl;
       corner-passes-12 = passing _ 2 2 3 12 _ c₃ refl;
       corner-2-fails-10 = failing _ 2 2 4 10 _ c₄ refl;
       example-1-fails-6 = failing _ 3 4 2 6 _ c₅ refl;

@@ -1,5 +1,5 @@
 -- Promise 2 holds: each sentence from the laws of its crate. Assumes nothing.
-use Prim.Native.Nat.{ℕ}
+use Prim.Native.Nat.{ℕ, _*_}
 use mathlib.Core.Path.{_≡_, refl, sym, ap, subst, subst₂, _∙_}
 use mathlib.Core.Bool.{false}
 use mathlib.Core.List.{List}
@@ -11,7 +11,7 @@ use Rattle.refusal.specs.declared.Refusal.{Refusal}
 use Rattle.refusal.specs.Lowest.{lowest}
 use Rattle.graph.specs.Count.{member}
 use Rattle.graph.specs.Graph.{Bipartite}
-use Rattle.graph.specs.Girth.{Passes}
+use Rattle.graph.specs.Girth.{Passes, IsGirth}
 use Rattle.graph.specs.Erasure.{Solution}
 use Rattle.graph.specs.Filling.{filledWord, clash, filledCount, leftCount}
 use Rattle.graph.proofs.Decide.{by-bool}
@@ -41,6 +41,11 @@ use Rattle.promises.specs.Two.{ShortCycle, Verdict, Verdicts, Passing, B
 short-cycle : (G : Bipartite) (target : ℕ) (r : GirthTest) → Witness G target r → ShortCycle G target
 short-cycle G target r w = record { n = r .n; checks = take (r .n) (r .checks); bits = take (r .n) (r .bits); cycle = w .cycle; short = w .short }
 
+-- a witness shows the girth
+shown-girth : (G : Bipartite) (target : ℕ) (r : GirthTest) → Witness G target r → IsGirth G (2 * r .n)
+shown-girth G target r w =
+    record { n = r .n; checks = take (r .n) (r .checks); bits = take (r .n) (r .bits); cycle = w .cycle; edges = refl; none-shorter = w .none-shorter }
+
 apart : (G : Bipartite) (target : ℕ) → Passes G target → ShortCycle G target → ⊥
 unfolding Passes
 apart G target p s = omega (arith, p (s .n) (s .checks) (s .bits) (s .cycle), s .short)
@@ -52,18 +57,21 @@ module _ (plan : List ℤ) (rows cols lift target : ℕ) where
         passed = (λ q. absurd (let z : _≡_ {A = ℕ} 0 1 = cc in omega arith), λ h. absurd (let n = h .0 in let z : _≡_ {A = ℕ} 0 1 = cc in omega arith));
         failed = (λ q. absurd (let z : _≡_ {A = ℕ} 0 1 = cc in omega arith), λ h. absurd (let n = h .0 in let z : _≡_ {A = ℕ} 0 1 = cc in omega arith));
         shown = λ n q. absurd (let z : _≡_ {A = ℕ} 0 1 = cc in omega arith);
+        girth = λ q. absurd (let z : _≡_ {A = ℕ} 0 1 = cc in omega arith);
       }
   verdict (passed e p) =
       record {
         passed = (λ q. (e, p), λ h. refl);
         failed = (λ q. absurd (let z : _≡_ {A = ℕ} 0 1 = cc in omega arith), λ h. absurd (apart _ target p (h .1)));
         shown = λ n q. absurd (q refl);
+        girth = λ q. absurd (let z : _≡_ {A = ℕ} 0 1 = cc in omega arith);
       }
   verdict (failed r e w) =
       record {
         passed = (λ q. absurd (let f = w .failed in let z : _≡_ {A = ℕ} 0 1 = cc in omega arith), λ h. absurd (apart _ target (h .1) (short-cycle _ target r w)));
         failed = (λ q. (e, short-cycle _ target r w), λ h. w .failed);
         shown = λ n q. w;
+        girth = λ q. shown-girth _ target r w;
       }
 
 pub verdicts : Verdicts

@@ -10,7 +10,7 @@ use lib.ListN.{length, getD}
 use Rattle.refusal.specs.Lowest.{lowest}
 use Rattle.graph.specs.Count.{below, count}
 use Rattle.graph.specs.Graph.{Bipartite}
-use Rattle.graph.specs.Girth.{SimpleCycle, Passes}
+use Rattle.graph.specs.Girth.{SimpleCycle, Passes, IsGirth}
 use Rattle.graph.specs.Erasure.{erased, Damaged, StoppingIn, Union, largest, Solution}
 use Rattle.graph.specs.Filling.{erasures}
 use Rattle.exponent.specs.Tanner.{tanner}
@@ -26,7 +26,7 @@ use Rattle.table.specs.declared.Built.the-variants.{Built}
 use Rattle.table.specs.Build.{lent, buildRules, builtPlan, built}
 
 -- A PLAN PASSES at a target exactly when its expanded graph has no simple cycle with fewer edges than the target, and else such a
--- cycle is shown.
+-- cycle is shown, of exactly as many edges as the girth (document 02, slip 2).
 
 -- there is a simple cycle with fewer edges than the target
 pub record ShortCycle (G : Bipartite) (target : ℕ) : Type 0 where
@@ -41,6 +41,7 @@ pub record Verdict (plan : List ℤ) (rows cols lift target : ℕ) (r : GirthTes
   pub passed : (r .outcome ≡ Passed) ↔ ((lowest (testRules plan rows cols lift target) ≡ none) × Passes (tanner plan rows cols lift) target)
   pub failed : (r .outcome ≡ Failed) ↔ ((lowest (testRules plan rows cols lift target) ≡ none) × ShortCycle (tanner plan rows cols lift) target)
   pub shown : lowest (testRules plan rows cols lift target) ≡ none → r .outcome ≢ Passed → Witness (tanner plan rows cols lift) target r
+  pub girth : r .outcome ≡ Failed → IsGirth (tanner plan rows cols lift) (2 * r .n)
 
 -- there is an answer, and every answer says so
 abbrev pub Verdicts : Type 0

@@ -50,7 +50,8 @@ pub extern "C" fn qcldpc_check(
     reply::give(r, out)
 }
 
-// The girth test: out[0] is 0 where the plan passes, else n of a witness cycle, its checks from out[1] and its bits from out[9].
+// The girth test: out[0] is 0 where the plan passes, else n of a witness cycle, half the girth; its checks stand from out[1],
+// its bits from out[9].
 #[no_mangle]
 pub extern "C" fn qcldpc_girth(
     plan: &[i16],

@@ -48,13 +48,14 @@ fn compare_good(plan: &Plan, graph: &Graph, girth: usize, target: usize, seen: &
     let input = &(Short(plan), target);
     let answer = qcldpc::girth(plan, target);
     seen.note(&answer);
-    let (checks, bits) = match answer.unwrap_or_else(|refusal| panic!("{refusal} for {input:?}")) {
+    let answer = answer.unwrap_or_else(|refusal| panic!("{refusal} for {input:?}"));
+    agree(input, answer.girth(), (girth < target).then_some(girth));
+    let (checks, bits) = match answer {
         Girth::Passed => (vec![], vec![]),
         Girth::Failed { checks, bits } => (checks, bits),
     };
-    agree(input, checks.is_empty(), girth >= target);
-    if !checks.is_empty() {
-        agree(input, reference::girth::fault(graph, target, &checks, &bits), None);
+    if girth < target {
+        agree(input, reference::girth::fault(graph, girth, &checks, &bits), None);
     }
     agree(input, raw_reply(plan, target), (0, out_of(&checks, &bits)));
 }
@@ -83,6 +84,37 @@ fn likely_plan(random: &Random) -> OwnedPlan {
     column_plan(random, rows, cols, lift, weight)
 }
 
+// Cycles side by side, one of 2n edges for each n, with no edge between them. A shift is the sum of a number of its row and one
+// of its column, so that each cycle closes on its first round.
+fn rings(halves: &[usize], lift: usize) -> OwnedPlan {
+    let size = halves.iter().sum();
+    let mut entries = vec![-1; size * size];
+    let mut first = 0;
+    for &n in halves {
+        for k in 0..n {
+            let row = first + k;
+            for col in [first + k, first + (k + 1) % n] {
+                entries[row * size + col] = ((3 * row + 5 * col) % lift) as i16;
+            }
+        }
+        first += n;
+    }
+    OwnedPlan { entries, rows: size, cols: size, lift }
+}
+
+// Where cycles of several lengths are below the target, a shortest is shown, wherever it stands.
+fn compare_rings(seen: &mut Seen) {
+    for choice in 1..16 {
+        let rising: Vec<usize> = (2..6).filter(|n| choice >> (n - 2) & 1 == 1).collect();
+        let falling: Vec<usize> = rising.iter().rev().copied().collect();
+        for lift in [1, 2, 7] {
+            for halves in [&rising, &falling] {
+                assert_eq!(compare(&rings(halves, lift).lent(), seen), Some(2 * rising[0]), "the girth of {halves:?}");
+            }
+        }
+    }
+}
+
 pub fn compare_all() -> Seen {
     let (random, mut seen) = (Random::new(2), Seen::default());
     for plan in limit_plans(&random) {
@@ -92,6 +124,7 @@ pub fn compare_all() -> Seen {
         assert_eq!(compare(&plan.lent(), &mut seen), Some(12), "every table plan passes at 12");
     }
     compare(&cyclic_plan(4, 1024).lent(), &mut seen);
+    compare_rings(&mut seen);
     let mut met = [0; 13];
     for k in 0..6000 {
         let plan = if k < 3000 { any_plan(&random, 8) } else { likely_plan(&random) };

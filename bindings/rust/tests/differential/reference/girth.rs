@@ -77,12 +77,12 @@ impl Search<'_> {
     }
 }
 
-/// What is wrong with a shown cycle, if anything: it is to be a simple cycle with fewer edges than the target.
-pub fn fault(graph: &Graph, target: usize, checks: &[usize], bits: &[usize]) -> Option<String> {
+/// What is wrong with a shown cycle, if anything: it is to be a simple cycle of as many edges as the girth.
+pub fn fault(graph: &Graph, girth: usize, checks: &[usize], bits: &[usize]) -> Option<String> {
     let n = checks.len();
     let distinct = |list: &[usize]| list.iter().collect::<HashSet<_>>().len() == list.len();
-    if !(2..=5).contains(&n) || 2 * n >= target || bits.len() != n {
-        return Some(format!("its length is {}", 2 * n));
+    if 2 * n != girth || bits.len() != n {
+        return Some(format!("it has {n} checks and {} bits", bits.len()));
     }
     if !distinct(checks) || !distinct(bits) {
         return Some("a check or a bit comes twice".into());
