@@ -176,9 +176,9 @@ module _ (G : Bipartite) where
   passes-none t m p h y = let s : Short G m = short-cycle y in omega (arith, p (s .n) (s .cs) (s .bs) (s .cycle))
 
   -- there is one girth at most: of two shortest cycles neither is shorter than the other
-  pub one-girth : (g h : ℕ) → IsGirth G g → IsGirth G h → g ≡ h
+  pub one-girth : {g h : ℕ} → IsGirth G g → IsGirth G h → g ≡ h
   unfolding Passes
-  one-girth g h a b =
+  one-girth a b =
       let p = a .none-shorter (b .n) (b .checks) (b .bits) (b .cycle) in
       let q = b .none-shorter (a .n) (a .checks) (a .bits) (a .cycle) in
       omega (arith, p, q, a .edges, b .edges)

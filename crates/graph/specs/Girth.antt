@@ -22,7 +22,7 @@ pub record SimpleCycle (G : Bipartite) (n : ℕ) (checks bits : List ℕ) : Type
 unfoldable pub Passes : Bipartite → ℕ → Type 0
 Passes G target = (n : ℕ) (checks bits : List ℕ) → SimpleCycle G n checks bits → target ≤ 2 * n
 
--- g is the girth, the least length: a simple cycle of g edges exists, and none is shorter
+-- g is the girth (document 01: the least length): a simple cycle of g edges exists, and none is shorter
 pub record IsGirth (G : Bipartite) (g : ℕ) : Type 0 where
   pub n : ℕ
   pub checks : List ℕ

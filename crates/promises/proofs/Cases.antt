@@ -66,7 +66,7 @@ module _ (plan : List ℤ) (rows cols lift target : ℕ) where
     failing-with : a .outcome ≡ Failed → FailingWith (2 * a .n) plan rows cols lift target
     failing-with q r h =
         let f = failing q r h in
-        (f, one-girth (tanner plan rows cols lift) _ _ (verdict plan rows cols lift target h .girth f) (verdict plan rows cols lift target computed-answer .girth q))
+        (f, one-girth (tanner plan rows cols lift) (verdict plan rows cols lift target h .girth f) (verdict plan rows cols lift target computed-answer .girth q))
 
   turned-away : (x : Refusal) → lowest (testRules plan rows cols lift target) ≡ some x → {r : GirthTest} → Answer plan rows cols lift target r → r .outcome ≡ Refused x
   turned-away x e (refused y q) = let s : y ≡ x = cc in ap Refused s
