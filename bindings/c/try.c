@@ -1,4 +1,4 @@
-/* Calls each of the nine functions from C. Says which line is wrong, or "c: 9 functions answer". */
+/* Calls each of the ten functions from C. Says which line is wrong, or "c: 10 functions answer". */
 #include "qcldpc.h"
 
 #include <stdio.h>
@@ -43,6 +43,15 @@ static void words(void)
     EXPECT(memcmp(lost, "\1\0\0\1", 4) == 0);
     EXPECT(qcldpc_fill(plan, 2, 1, 2, 2, clash, 4, out, QCLDPC_OUT) == 20);
     EXPECT(memcmp(clash, "\1\2\2\0", 4) == 0);
+}
+
+static void erasures(void)
+{
+    /* eight bytes and three more; 131 and 130 have the low bits of 3 and 2 */
+    const uint8_t any[11] = {131, 2, 0, 130, 3, 255, 1, 2, 2, 34, 2};
+    EXPECT(qcldpc_count_erasures(any, 11, out, QCLDPC_OUT) == 0 && out[0] == 4);
+    EXPECT(qcldpc_count_erasures(any, 8, out, QCLDPC_OUT) == 0 && out[0] == 2);
+    EXPECT(qcldpc_count_erasures(NULL, 0, out, QCLDPC_OUT) == 0 && out[0] == 0);
 }
 
 static void tables(void)
@@ -107,11 +116,12 @@ int main(void)
 {
     plans();
     words();
+    erasures();
     tables();
     texts();
     unpadded_texts();
     too_small_an_out();
     if (!wrong)
-        puts("c: 9 functions answer");
+        puts("c: 10 functions answer");
     return wrong;
 }

@@ -67,10 +67,10 @@ fn most(name: &str, kind: &str) -> usize {
 
 fn table() {
     let all = most("nothing", "");
-    println!("{:20} {:>12} {:>12}", "stack in KiB", "largest", "refused");
+    println!("{:22} {:>12} {:>12}", "stack in KiB", "largest", "refused");
     for function in FUNCTIONS {
         let [largest, refused] = ["largest", "refused"].map(|kind| all - most(function.name, kind));
-        println!("{:20} {largest:>12} {refused:>12}", function.name);
+        println!("{:22} {largest:>12} {refused:>12}", function.name);
     }
 }
 

@@ -174,6 +174,16 @@ pub fn fill(plan: &Plan, word: &mut [u8]) -> Result<Fill, Refusal> {
     )
 }
 
+/// How many bytes of a word are 2: its erasures. Nothing is refused: a word of any length is counted, and bytes above 2 are not.
+///
+/// ```
+/// assert_eq!(qcldpc::count_erasures(&[2, 0, 1, 2, 130, 3, 1, 0, 2]), 3);
+/// ```
+pub fn count_erasures(word: &[u8]) -> usize {
+    let count = |out, len| unsafe { raw::qcldpc_count_erasures(word.as_ptr(), word.len(), out, len) };
+    call(count, |out| out[0] as usize).expect("the count refuses nothing")
+}
+
 /// The array table of an order from 4 to 7, in `order × order` places. Refusals 7, 8.
 pub fn array_table(order: usize, table: &mut [i16]) -> Result<(), Refusal> {
     call(|out, len| unsafe { raw::qcldpc_array_table(order as u64, table.as_mut_ptr(), table.len(), out, len) }, |_| ())

@@ -1,4 +1,4 @@
-//! The nine functions as `include/qcldpc.h` declares them: a slice passes as a pointer, then its length.
+//! The ten functions as `include/qcldpc.h` declares them: a slice passes as a pointer, then its length.
 //! Nothing is asked of numbers and bytes; each pointer goes with the length of its memory, and memory that is written
 //! overlaps no other. A call returns within 1 MiB of stack.
 
@@ -53,6 +53,8 @@ extern "C" {
         out: *mut u64,
         out_len: usize,
     ) -> u64;
+
+    pub fn qcldpc_count_erasures(word: *const u8, word_len: usize, out: *mut u64, out_len: usize) -> u64;
 
     pub fn qcldpc_array_table(order: u64, table: *mut i16, table_len: usize, out: *mut u64, out_len: usize) -> u64;
 

@@ -10,3 +10,4 @@ pub mod One
 pub mod Three
 pub mod Table
 pub mod Cases
+pub mod Counts

@@ -5,3 +5,4 @@ pub mod Three
 pub mod Table
 pub mod Cases
 pub mod Texts
+pub mod Counts

@@ -1,8 +1,10 @@
 // The C interface of the library, for Rust and C: `rt staticlib qcldpc`.
 // Each function returns 0, or the number of a refusal (document 01, "Turned away"), and puts values into `out` (specs/Door.antt).
 ghost use mathlib.Core.Path.{_≡_};
+ghost use Prim.Native.Nat.{ℕ};
 ghost use lib.ListN.{length};
 ghost use Rattle.refusal.specs.Lowest.{lowest};
+ghost use Rattle.graph.specs.Filling.{erasures};
 ghost use Rattle.exponent.specs.declared.Validity.{Validity};
 ghost use Rattle.exponent.specs.Limits.{planRules, validity};
 ghost use Rattle.girth.specs.declared.GirthTest.{GirthTest};
@@ -20,6 +22,7 @@ ghost use Rattle.table.specs.Build.{lent, supplyRules, supplied, buildRules, bu
 ghost use Rattle.alist.specs.declared.Written.{Written};
 ghost use Rattle.alist.specs.declared.Comparison.{Comparison};
 ghost use Rattle.alist.specs.Calls.{alistText, writeRules, written, laid, compareRules, comparison};
+ghost use Rattle.qcldpc.specs.declared.reply.Reply.the-variants.{One};
 ghost use Rattle.qcldpc.specs.Door.{Replies, Leaves, gives, checkReply, girthReply, fillReply, syndromeReply, builtReply, suppliedReply, writtenReply, comparedReply};
 use square::supply::Family;
 
@@ -115,6 +118,18 @@ pub extern "C" fn qcldpc_syndrome(
     let a = syndrome::check(plan, rows as usize, cols as usize, lift as usize, word);
     let r = reply::found(a);
     reply::give(r, out)
+}
+
+// The erasures of a word, for any list of bytes: out[0] is their number. Nothing is refused.
+#[no_mangle]
+pub extern "C" fn qcldpc_count_erasures(word: &[u8], out: &mut [u64]) -> u64
+    ensures { λ r. ⌜ Replies ℕ (λ n. n ≡ erasures (now (word .entry))) (gives One) (now (out .entry)) r (now (out .exit)) ⌝ }
+{
+    if out.len() < PLACES {
+        return NO_ROOM;
+    }
+    let n = syndrome::byte::count_erasures(word);
+    reply::give(reply::Reply::One(n), out)
 }
 
 // The plan of a table and a mask: out[0] rows and out[1] columns.

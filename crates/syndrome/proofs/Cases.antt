@@ -1,4 +1,4 @@
--- Answers of the syndrome check to a few words, computed. Assumes nothing.
+-- Answers of the syndrome check to a few words, and the erasures of a list of any bytes, computed. Assumes nothing.
 use Prim.Native.Nat.{ℕ}
 use mathlib.Core.Path.{_≡_, refl}
 use mathlib.Core.List.{List, [], _∷_}
@@ -6,9 +6,10 @@ use lib.IntN.{pos}
 use Rattle.refusal.specs.declared.Refusal.the-variants.{WordLength, Byte, Erasure}
 use Rattle.refusal.specs.Lowest.{lowest}
 use Rattle.refusal.specs.Place.{firstPlace}
-use Rattle.graph.specs.Count.{range, select}
+use Rattle.graph.specs.Count.{range, select, count}
 use Rattle.graph.specs.Graph.{bitsOf}
 use Rattle.graph.specs.Erasure.{total, parity}
+use Rattle.graph.specs.Filling.{erasures}
 use Rattle.exponent.specs.Plan.{entryAt, blockAt}
 use Rattle.exponent.specs.Limits.{planRules}
 use Rattle.exponent.specs.Tanner.{tanner}
@@ -16,6 +17,7 @@ use Rattle.syndrome.specs.declared.Syndrome.{Syndrome}
 use Rattle.syndrome.specs.declared.Syndrome.the-variants.{Even, Refused}
 use Rattle.syndrome.specs.Word.{byteRules, wordRules}
 use Rattle.syndrome.specs.Check.{checkRules, lowestOdd, syndromeOf}
+use Rattle.syndrome.specs.Lanes.{bytesOf}
 
 -- a word for the one-row plan 0 1 at lift 2, whose checks join the bits 0 3 and 1 2
 pub record Case : Type 0 where
@@ -40,3 +42,12 @@ Hold (c ∷ l) = (syndromeOf (pos 0 ∷ pos 1 ∷ []) 1 2 2 (c .word) ≡ c .ans
 pub cases-hold : Hold cases
 unfolding syndromeOf checkRules wordRules byteRules planRules lowest firstPlace lowestOdd parity total bitsOf tanner select range blockAt entryAt
 cases-hold = (refl, (refl, (refl, (refl, tt))))
+
+-- the bytes of a number, lowest first; of them two are 2, and 130, 3 and 255 are not
+mixed : bytesOf 8 0x02_ff_03_01_82_00_02_01 ≡ 1 ∷ 2 ∷ 0 ∷ 130 ∷ 1 ∷ 3 ∷ 255 ∷ 2 ∷ []
+unfolding bytesOf
+mixed = refl
+
+two-lost : erasures (bytesOf 8 0x02_ff_03_01_82_00_02_01) ≡ 2
+unfolding bytesOf erasures count
+two-lost = refl

@@ -3,3 +3,5 @@ pub mod Scanning
 pub mod Odds
 pub mod Rules
 pub mod Cases
+pub mod Flags
+pub mod Packed

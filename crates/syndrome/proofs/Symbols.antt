@@ -1,10 +1,17 @@
 -- Laws of a word's bytes: which of them are refused, which are erasures. Assumes nothing.
-use Prim.Native.Nat.{ℕ, _≤_, _<_}
-use mathlib.Core.Path.{_≡_, ap}
+use Prim.Native.Nat.{ℕ, _+_, _-_, _≤_, _<_}
+use mathlib.Core.Path.{_≡_, sym, ap, _∙_}
 use mathlib.Core.Logic.{_↔_}
 use mathlib.Core.Bool.{true, false}
+use mathlib.Core.List.{List}
 use native.Mathlib.Omega.{arith}
 use borrow.Author.Tests.{lt-ltb, le-ltb, ne-eqb}
+use lib.Dec.{eqb}
+use lib.ListN.{length, take, drop}
+use lib.Seq.{take-add, take-all}
+use Rattle.graph.specs.Count.{count}
+use Rattle.graph.specs.Filling.{erasures}
+use Rattle.graph.proofs.Count.{count-append, count-le}
 use Rattle.graph.proofs.Decide.{both-ways, by-le}
 use Rattle.syndrome.specs.declared.byte.Symbol.the-variants.{Known, Erased, Other}
 use Rattle.syndrome.specs.Word.{symbolOf, sought, isErasure, isOther}
@@ -50,3 +57,16 @@ module _ (x : ℕ) where
         (λ h. both-ways e (ap (sought true) (symbol-other h))),
     λ e. ap (sought true) (symbol-erased e),
   )
+
+-- the erasures of a word's first i + j bytes are those of the first i and those of the j after them
+pub erasures-add : (i j : ℕ) (word : List ℕ) → erasures (take (i + j) word) ≡ erasures (take i word) + erasures (take j (drop i word))
+unfolding erasures
+erasures-add i j word = ap (count (λ x. eqb x 2)) (take-add i j word) ∙ count-append (λ x. eqb x 2) (take i word) (take j (drop i word))
+
+-- those of a word are those of its first i bytes and those of the others
+pub erasures-parts : (i : ℕ) (word : List ℕ) → i ≤ length word → erasures (take i word) + erasures (take (length word - i) (drop i word)) ≡ erasures word
+erasures-parts i word h = sym (erasures-add i (length word - i) word) ∙ ap erasures (take-all (i + (length word - i)) word (omega arith))
+
+pub erasures-le : (word : List ℕ) → erasures word ≤ length word
+unfolding erasures
+erasures-le word = count-le (λ x. eqb x 2) word

@@ -1,3 +1,4 @@
 pub mod Word
 pub mod Check
 pub mod Scan
+pub mod Lanes

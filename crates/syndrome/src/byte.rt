@@ -1,6 +1,9 @@
+use super::lanes;
 use exponent::Validity;
 use refusal::Refusal;
 ghost use mathlib.Core.Path.{_≡_};
+ghost use Prim.Native.Nat.{_%_};
+ghost use lib.ListN.{length};
 ghost use Rattle.refusal.specs.Lowest.{lowest};
 ghost use Rattle.refusal.specs.Place.{firstPlace};
 ghost use Rattle.graph.specs.Filling.{erasures};
@@ -51,8 +54,8 @@ pub fn first(erasures: bool, word: &[u8]) -> usize
     place
 }
 
-// How many bytes are erasures, for any list of bytes.
-pub fn count_erasures(word: &[u8]) -> usize
+// How many bytes are erasures, by one byte after the other.
+fn count_bytes(word: &[u8]) -> usize
     ensures { λ r. ⌜ r ≡ erasures (now (word .entry)) ⌝ }
 {
     let mut n = 0;
@@ -64,6 +67,29 @@ pub fn count_erasures(word: &[u8]) -> usize
         place += 1;
     }
     n
+}
+
+// The same by eight bytes at a time.
+fn count_eights(word: &[u8]) -> usize
+    requires { ⌜ length (now word) % 8 ≡ 0 ⌝ }
+    ensures { λ r. ⌜ r ≡ erasures (now (word .entry)) ⌝ }
+{
+    let mut n = 0;
+    let mut place = 0;
+    while place < word.len() {
+        let end = place + 8;
+        n += lanes::count(lanes::load(&word[place..end]));
+        place = end;
+    }
+    n
+}
+
+// How many bytes are erasures, for any list of bytes: the last few by themselves.
+pub fn count_erasures(word: &[u8]) -> usize
+    ensures { λ r. ⌜ r ≡ erasures (now (word .entry)) ⌝ }
+{
+    let whole = word.len() - word.len() % 8;
+    count_eights(&word[..whole]) + count_bytes(&word[whole..])
 }
 
 // Judges the bytes of a word that is to have n of them: refusals 16 and 18.

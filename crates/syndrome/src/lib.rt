@@ -10,6 +10,7 @@ ghost use Rattle.syndrome.specs.Word.{wordRules};
 ghost use Rattle.syndrome.specs.Check.{syndromeOf, lowestOdd, found};
 
 pub mod byte; // byte.rt: what a byte of a word says
+mod lanes; // lanes.rt: eight bytes as one number
 pub mod scan; // scan.rt: the bits of one check
 
 use exponent::Shape;

@@ -1,4 +1,4 @@
-//! The syndrome check and the decoder on the largest words.
+//! The syndrome check, the decoder and the count of erasures on the largest words.
 use super::plans::{chain, full, largest, turned_away};
 use super::{expect, refusal, tables, Call};
 use qcldpc::{Fill, OwnedPlan, Refusal, Syndrome};
@@ -77,4 +77,11 @@ pub fn fill_refused() -> Vec<Call> {
     ];
     calls.extend(wrong.map(|(word, wanted)| kept(tall.clone(), word, Err(wanted))));
     calls
+}
+
+// It refuses nothing, so the largest word is not the longest list.
+pub fn count_erasures() -> Vec<Call> {
+    let counted = |word: Vec<u8>, wanted| expect(move || qcldpc::count_erasures(&word), wanted);
+    let every_fifth = (0..16 * BITS + 7).map(|k| if k % 5 == 0 { 2 } else { 130 }).collect();
+    vec![counted(vec![2; BITS], BITS), counted(every_fifth, (16 * BITS + 7).div_ceil(5)), counted(Vec::new(), 0)]
 }

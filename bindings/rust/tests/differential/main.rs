@@ -1,5 +1,6 @@
 //! The library beside an independent implementation, on a fixed sequence of many inputs.
 mod alist;
+mod count;
 mod door;
 mod fill;
 mod girth;
@@ -22,6 +23,7 @@ static GIRTH: LazyLock<Seen> = LazyLock::new(girth::compare_all);
 static TABLES: LazyLock<Seen> = LazyLock::new(tables::compare_all);
 static WORDS: LazyLock<Seen> = LazyLock::new(words::compare_all);
 static FILL: LazyLock<Seen> = LazyLock::new(fill::compare_all);
+static COUNT: LazyLock<Seen> = LazyLock::new(count::compare_all);
 static ALIST: LazyLock<Seen> = LazyLock::new(alist::compare_all);
 static PROMISE: LazyLock<Seen> = LazyLock::new(promise::compare_all);
 
@@ -48,6 +50,12 @@ fn syndrome_check() {
 #[test]
 fn decoder() {
     println!("decoder: {}", *FILL);
+}
+
+#[test]
+fn erasure_count() {
+    println!("erasure count: {}", *COUNT);
+    assert_eq!((1..22).map(|n| COUNT.refusals(n)).sum::<usize>(), 0);
 }
 
 #[test]

@@ -1,4 +1,4 @@
-//! Words: refusals 16, 18 and 19, and the syndrome by plain sums.
+//! Words: refusals 16, 18 and 19, the syndrome by plain sums, and the lost bytes.
 use super::graph::graph;
 use super::{plan, refused};
 use qcldpc::{Plan, Refusal, Syndrome};
@@ -26,4 +26,9 @@ pub fn syndrome(plan: &Plan, word: &[u8]) -> Result<Syndrome, Refusal> {
         Some(check) => Ok(Syndrome::Odd(check)),
         None => Ok(Syndrome::Even),
     }
+}
+
+/// The bytes equal to 2.
+pub fn lost(word: &[u8]) -> usize {
+    word.iter().filter(|&&byte| byte == 2).count()
 }

@@ -1,63 +1,66 @@
--- `syndrome::byte::count_erasures` meets its contract. The loop's invariant: n counts the erasures at the places passed.
--- The measure is what is left of the word. Assumes nothing.
-use Prim.Native.Nat.{_≤_, _-_}
-use mathlib.Core.Path.{_≡_, sym, ap, _∙_}
-use mathlib.Core.Logic.{⊎-elim}
+-- `syndrome::byte::count_erasures` meets its contract: the word is its whole eights and the bytes after them. Assumes nothing.
+use Prim.Native.Nat.{ℕ, _+_, _-_, _%_}
+use mathlib.Core.Path.{_≡_, sym, ap₂, _∙_}
+use mathlib.Core.List.{List}
 use native.Mathlib.Omega.{arith}
 use borrow.Author.Needs.{needs}
-use borrow.Author.Tests.{eq-eqb, ne-eqb}
-use lib.ListN.{length}
-use Rattle.graph.specs.Count.{range, below, one, count}
-use Rattle.graph.specs.Erasure.{erased}
+use lib.ListN.{length, take}
+use lib.Seq.{length-take-le}
 use Rattle.graph.specs.Filling.{erasures}
-use Rattle.graph.proofs.Count.{count-positions, count-last}
+use Rattle.syndrome.proofs.Symbols.{erasures-parts, erasures-le}
 use Rattle.syndrome.proofs.byte.count_erasures.Statement.{statement}
 use Rattle.syndrome.proofs.byte.count_erasures.Tie as tie
 
-abbrev Inv-loop : tie.InvT-loop
-Inv-loop word n₀ place₀ n place = (place ≤ length word) × (n ≤ place) × (n ≡ count (erased word) (below place))
+-- the whole eights are inside the word
+whole-length : (word : List ℕ) → length (take (length word - length word % 8) word) ≡ length word - length word % 8
+whole-length word = length-take-le (length word - length word % 8) word (omega arith)
 
-abbrev μ-loop : tie.MeasureT-loop
-μ-loop word n₀ place₀ n place = length word - place
+sub-whole : tie.Need-sub-whole
+sub-whole c = search needs
 
-loop-holds : tie.Need-loop-holds Inv-loop μ-loop
-unfolding count range
-loop-holds c = search needs
+slice-aggregate-count-eights : tie.Need-slice-aggregate-count-eights
+slice-aggregate-count-eights c = sym (whole-length (c .before .before .args .word .now))
 
-shared-slice-read-if1 : tie.Need-shared-slice-read-if1 Inv-loop μ-loop
-shared-slice-read-if1 c = search needs
+count-eights-requires : tie.Need-count-eights-requires
+count-eights-requires c κs = omega (arith, whole-length (c .before .before .args .word .now))
 
-add-n : tie.Need-add-n Inv-loop μ-loop
-add-n c = search needs
+sub-count-bytes : tie.Need-sub-count-bytes
+sub-count-bytes c = search needs
 
-add-place : tie.Need-add-place Inv-loop μ-loop
-add-place c = search needs
+part-count-bytes-start : tie.Need-part-count-bytes-start
+part-count-bytes-start c = search needs
 
-loop-less : tie.Need-loop-less Inv-loop μ-loop
-loop-less c = search needs
+part-count-bytes-end : tie.Need-part-count-bytes-end
+part-count-bytes-end c = search needs
 
-loop-again : tie.Need-loop-again Inv-loop μ-loop
-loop-again c =
-    let more = count-last (erased (c .before .before .before .before .args .word .now)) (c .before .before .before .loop .place) in
-    ⊎-elim (λ w. omega (arith, ap one (eq-eqb _ _ (w .0 .taken)))) (λ w. omega (arith, ap one (ne-eqb _ _ (w .0 .left)))) (c .if1 .came)
+count-bytes-requires : tie.Need-count-bytes-requires
+count-bytes-requires c κs = search needs
 
-returns : tie.Need-returns Inv-loop μ-loop
-unfolding erasures
-returns c =
-    let word = c .before .before .args .word .now in
-    let end : c .before .loop .place ≡ length word = omega arith in
-    (rw end at (c .before .loop .inv .2)) ∙ sym (count-positions _ word)
+abbrev word-of : tie.After-count-bytes → List ℕ
+word-of c = c .before .before .before .before .before .args .word .now
+
+-- the two counts together
+total : (c : tie.After-count-bytes) → c .before .before .count-eights .result + c .count-bytes .result ≡ erasures (word-of c)
+total c =
+    let word = word-of c in
+    ap₂ _+_ (c .before .before .count-eights .ensures) (c .count-bytes .ensures) ∙ erasures-parts (length word - length word % 8) word (omega arith)
+
+add-result : tie.Need-add-result
+add-result c = omega (arith, total c, erasures-le (word-of c))
+
+returns : tie.Need-returns
+returns c = total c
 
 pub count-erasures-spec : {M : Type 1} → statement M
 count-erasures-spec =
     tie.close
     (tie.spec
-    Inv-loop
-    μ-loop
-    loop-holds
-    shared-slice-read-if1
-    add-n
-    add-place
-    loop-less
-    loop-again
+    sub-whole
+    slice-aggregate-count-eights
+    count-eights-requires
+    sub-count-bytes
+    part-count-bytes-start
+    part-count-bytes-end
+    count-bytes-requires
+    add-result
     returns)
