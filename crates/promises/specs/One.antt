@@ -76,7 +76,7 @@ ofComparison (comparison-answer.Refused r) = some r
 abbrev pub Unchanged : {A : Type 0} → Option Refusal → List A → List A → Type 0
 Unchanged answer before after = (r : Refusal) → answer ≡ some r → after ≡ before
 
--- for each call, over the definitions that its contract equates answer and lent memory with
+-- for each call that can refuse (the count of erasures cannot), over the definitions that its contract equates answer and lent memory with
 pub record Promise-1 : Type 0 where
   -- 1 to 6
   pub validate : (plan : List ℤ) (rows cols lift : ℕ) → LowestOf (PlanRow plan rows cols lift) (ofValidity (validity (lowest (planRules plan rows cols lift))))
