@@ -1,9 +1,10 @@
 /* Quasi-cyclic LDPC plans: the ten functions of libqcldpc.a (`rt staticlib qcldpc`), for C99 on x86-64. A program is linked
  * with them by `-L target/staticlib -lqcldpc`.
  *
- * A plan is rows x cols numbers, row by row: -1 is a zero (empty) block, e from 0 to lift - 1 the identity with its rows
- * shifted right by e. A word is cols x lift bytes: 0 or 1 for a known bit, 2 for an erasure. Bit z of column j is number
- * j * lift + z, check y of row i is number i * lift + y; all numbers and places count from 0.
+ * A plan is rows x cols numbers, row by row: -1 is a zero (empty) block, e from 0 to 32,767 the identity with its rows
+ * shifted right by the remainder of e by the lift; below -1 there is no block (refusal 6). A word is cols x lift bytes: 0 or
+ * 1 for a known bit, 2 for an erasure. Bit z of column j is number j * lift + z, check y of row i is number i * lift + y; all
+ * numbers and places count from 0.
  *
  * Every function returns 0 for a result, or the number of a refusal (README.md, "Refusals"): the lowest that applies, and
  * then nothing lent is changed but the refusal's values, which stand in `out` from out[0] on:

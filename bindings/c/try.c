@@ -20,12 +20,15 @@ static uint64_t out[QCLDPC_OUT];
 
 static void plans(void)
 {
-    const int16_t bad[2] = {0, 2};
+    const int16_t bad[2] = {0, -2};
+    const int16_t printed[4] = {2, 32766, 4, 3};
     const int16_t zeros[4] = {0, 0, 0, 0};
     const int16_t two_lengths[6] = {0, 0, 0, 0, 1, 1};
     EXPECT(qcldpc_check(plan, 2, 1, 2, 2, out, QCLDPC_OUT) == 0);
     EXPECT(qcldpc_check(bad, 2, 1, 2, 2, out, QCLDPC_OUT) == 6 && out[0] == 1);
     EXPECT(qcldpc_check(plan, 2, 1, 2, 4097, out, QCLDPC_OUT) == 3);
+    /* by 2 the remainders are 0 0 / 0 1, which closes on the second round */
+    EXPECT(qcldpc_girth(printed, 4, 2, 2, 2, 12, out, QCLDPC_OUT) == 0 && 2 * out[0] == 8);
     EXPECT(qcldpc_girth(plan, 2, 1, 2, 2, 12, out, QCLDPC_OUT) == 0 && out[0] == 0);
     EXPECT(qcldpc_girth(zeros, 4, 2, 2, 1, 6, out, QCLDPC_OUT) == 0 && out[0] == 2);
     EXPECT(out[1] + out[2] == 1 && out[9] + out[10] == 1);

@@ -1,10 +1,10 @@
 //! Times the proved decoder on the 1,764-bit plan of source 004's example 2 (cyclic table of order 7, lift 7, mask 0 on the
 //! diagonal) with 13 and with 400 erasures, beside a plain Rust worklist decoder. The call gets the plan as numbers for each
 //! word, judges it and builds its index; so there are two references: one that does the same for each word, and one that
-//! prepares the plan once.
+//! prepares the plan once. All run with the voltages below the lift, and with the same plan's voltages above it.
 mod common;
 
-use common::{cyclic_plan, judge, timed, OwnedPlan};
+use common::{cyclic_plan, judge, printed, shift, timed, OwnedPlan};
 use qcldpc::Fill;
 use std::hint::black_box;
 use std::time::Duration;
@@ -25,7 +25,7 @@ fn lists(plan: &OwnedPlan) -> Lists {
         for j in 0..cols {
             let e = entries[i * cols + j];
             if e >= 0 {
-                row_items.push((j, e as usize));
+                row_items.push((j, shift(e, plan.lift)));
                 col_counts[j + 1] += 1;
             }
         }
@@ -136,34 +136,40 @@ fn decode_all(best: &mut Duration, words: &[Vec<u8>], decode: impl Fn(&mut [u8])
     timed(best, || copies.iter_mut().for_each(|word| assert!(black_box(decode(black_box(word))).is_ok())));
 }
 
+// All three in turn on the same words, best of 7 each.
+fn beside(name: &str, plan: &OwnedPlan, words: &[Vec<u8>]) {
+    let once = lists(plan);
+    let proved = |word: &mut [u8]| qcldpc::fill(&plan.lent(), word).map_err(|refusal| refusal.number);
+    let same_work = |word: &mut [u8]| same_work(plan, word);
+    let prepared = |word: &mut [u8]| decode(&once, plan, word);
+    for word in words {
+        let (mut a, mut b, mut c) = (word.clone(), word.clone(), word.clone());
+        let answer = proved(&mut a);
+        assert_eq!(answer, same_work(&mut b));
+        assert_eq!(answer, prepared(&mut c));
+        assert!(a == b && a == c);
+    }
+    let (mut ours, mut same, mut once) = (Duration::MAX, Duration::MAX, Duration::MAX);
+    for _ in 0..7 {
+        decode_all(&mut ours, words, proved);
+        decode_all(&mut same, words, same_work);
+        decode_all(&mut once, words, prepared);
+    }
+    let rate = |d: Duration| words.len() as f64 / d.as_secs_f64();
+    println!("{name}: qcldpc_fill {:.0} words a second", rate(ours));
+    for (name, theirs) in [("same work for each word", same), ("plan prepared once", once)] {
+        let ratio = ours.as_secs_f64() / theirs.as_secs_f64();
+        println!("  reference, {name}, {:.0} words a second, ratio {ratio:.2}", rate(theirs));
+    }
+}
+
 fn main() {
     let mask: Vec<u8> = (0..49).map(|k| (k / 7 != k % 7) as u8).collect();
     let plan = cyclic_plan(7, 7, &mask, 6);
     let mut sequence = Sequence(1);
-    let once = lists(&plan);
-    let proved = |word: &mut [u8]| qcldpc::fill(&plan.lent(), word).map_err(|refusal| refusal.number);
-    let same_work = |word: &mut [u8]| same_work(&plan, word);
-    let prepared = |word: &mut [u8]| decode(&once, &plan, word);
     for n in [13, 400] {
-        let words: Vec<Vec<u8>> = (0..200).map(|_| damaged(plan.cols * plan.lift, n, &mut sequence)).collect();
-        for word in &words {
-            let (mut a, mut b, mut c) = (word.clone(), word.clone(), word.clone());
-            let answer = proved(&mut a);
-            assert_eq!(answer, same_work(&mut b));
-            assert_eq!(answer, prepared(&mut c));
-            assert!(a == b && a == c);
-        }
-        let (mut ours, mut same, mut once) = (Duration::MAX, Duration::MAX, Duration::MAX);
-        for _ in 0..7 {
-            decode_all(&mut ours, &words, proved);
-            decode_all(&mut same, &words, same_work);
-            decode_all(&mut once, &words, prepared);
-        }
-        let rate = |d: Duration| words.len() as f64 / d.as_secs_f64();
-        println!("{n} erasures: qcldpc_fill {:.0} words a second", rate(ours));
-        for (name, theirs) in [("same work for each word", same), ("plan prepared once", once)] {
-            let ratio = ours.as_secs_f64() / theirs.as_secs_f64();
-            println!("{n} erasures: reference, {name}, {:.0} words a second, ratio {ratio:.2}", rate(theirs));
-        }
+        let words: Vec<Vec<u8>> = (0..200).map(|_| damaged(plan.bits(), n, &mut sequence)).collect();
+        beside(&format!("{n} erasures"), &plan, &words);
+        beside(&format!("{n} erasures, voltages above the lift"), &printed(&plan), &words);
     }
 }

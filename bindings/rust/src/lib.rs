@@ -27,8 +27,19 @@ pub mod raw;
 
 use std::fmt;
 
-/// An exponent matrix: `rows × cols` entries, row by row. −1 is a zero block, `e` from 0 to `lift − 1` the identity with its
-/// rows shifted right by `e`.
+/// An exponent matrix: `rows × cols` entries, row by row. −1 is a zero block, `e` from 0 to 32,767 the identity with its rows
+/// shifted right by the remainder of `e` by `lift`; below −1 there is no block (refusal 6). So voltages may be given as they
+/// are printed:
+///
+/// ```
+/// use qcldpc::{alist_compare, alist_write, Plan};
+///
+/// let printed = Plan { entries: &[0, 3, -1, 12, 4, 32767], rows: 2, cols: 3, lift: 3 };
+/// let reduced = Plan { entries: &[0, 0, -1, 0, 1, 1], rows: 2, cols: 3, lift: 3 };
+/// let mut text = [0; 200];
+/// let length = alist_write(&printed, &mut text).unwrap();
+/// assert_eq!(alist_compare(&reduced, &text[..length]), Ok(()));
+/// ```
 #[derive(Clone, Copy, Debug, PartialEq, Eq)]
 pub struct Plan<'a> {
     pub entries: &'a [i16],

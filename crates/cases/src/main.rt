@@ -1,5 +1,6 @@
 // The test program: runs the bench cases of document 01 that are not proved as a table, and the sources' parameters,
 // and writes a line for each answer, to be compared with the stored output.
+mod lowered; // lowered.rt: a matrix with P lowered, so that voltages stand at or above it
 mod say; // say.rt: what is written
 mod source000; // source000.rt: the degree matrices of source 000
 mod source001; // source001.rt: the labelings of source 001
@@ -11,6 +12,7 @@ fn main() {
     tables::order_six();
     tables::order_seven();
     tables::diagonal();
+    tables::printed();
     text::one_row();
     source002::example_one();
     source001::table_two();

@@ -1,7 +1,8 @@
 // The degree matrices of source 000, Tables II to V: 3 rows and K columns, with zeros in the first column and the last
 // row. What is left, W', stands here as printed there, under its table, K and M, its rows filled up with 0 to 11 places.
-// Each is judged at its printed girth and, where that is below the largest target, there.
+// Each is judged at its printed girth and, where that is below the largest target, there; then with P lowered.
 ghost use Prim.Native.Nat.{_≤_};
+use crate::lowered::lowered;
 use crate::say::LARGEST;
 use crate::say::judged;
 use crate::say::number;
@@ -275,7 +276,15 @@ fn verdict(plan: [i16; 36], cols: usize, lift: usize, target: usize)
     judged(&plan[0..size], 3, cols, lift, target);
 }
 
-// Judges a code at its girth and at the largest target; K = `cols`, M = `lift`.
+// The verdicts with P lowered.
+fn with_less(plan: [i16; 36], cols: usize)
+    requires { ⌜ cols ≤ 12 ⌝ }
+{
+    let size = 3 * cols;
+    lowered(&plan[0..size], 3, cols);
+}
+
+// Judges a code at its girth and at the largest target, then with P lowered; K = `cols`, M = `lift`.
 fn code(girth: usize, cols: usize, lift: usize, rows: [[i16; 11]; 2])
     requires { ⌜ cols ≤ 12 ⌝ }
 {
@@ -292,6 +301,7 @@ fn code(girth: usize, cols: usize, lift: usize, rows: [[i16; 11]; 2])
         say(b", ");
         verdict(plan, cols, lift, LARGEST);
     }
+    with_less(plan, cols);
     say(b"\n");
 }
 

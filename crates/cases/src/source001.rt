@@ -1,5 +1,7 @@
 // Labelings of base matrix (6) of source 001 as plans of 6 rows and 8 columns, with -1 where (6) has 0. The i-th number
-// printed for a row stands at the row's i-th nonzero entry. Each is judged at its girth and at the largest target.
+// printed for a row stands at the row's i-th nonzero entry. Each is judged at its girth and at the largest target, then with P
+// lowered.
+use crate::lowered::lowered;
 use crate::say::LARGEST;
 use crate::say::judged;
 use crate::say::number;
@@ -50,7 +52,12 @@ fn verdict(plan: [i16; 48], lift: usize, target: usize) {
     judged(&plan, 6, 8, lift, target);
 }
 
-// Judges a labeling at its girth and at the largest target; M = `lift`.
+// The verdicts with P lowered.
+fn with_less(plan: [i16; 48]) {
+    lowered(&plan, 6, 8);
+}
+
+// Judges a labeling at its girth and at the largest target, then with P lowered; M = `lift`.
 fn labeling(girth: usize, lift: usize, rows: [[i16; 8]; 6]) {
     let mut plan = [0i16; 48];
     put_rows(rows, &mut plan);
@@ -59,6 +66,7 @@ fn labeling(girth: usize, lift: usize, rows: [[i16; 8]; 6]) {
     verdict(plan, lift, girth);
     say(b", ");
     verdict(plan, lift, LARGEST);
+    with_less(plan);
     say(b"\n");
 }
 

@@ -1,5 +1,6 @@
 // Example 1 of source 002: the voltages of (5), tailbitten to length 2, and the parity-check matrix (6) as alist.
 // Its free girth, over the integers, is 4 too; a lift of 4,096 stands for them: a short cycle's voltages cannot add up to it.
+// At P = 1 its voltage 1 is printed at P.
 use crate::say::judged;
 use crate::say::number;
 use crate::say::say;
@@ -18,4 +19,6 @@ pub fn example_one() {
     example(2);
     alist_of(&VOLTAGES, 3, 4, 2);
     example(4096);
+    example(1);
+    alist_of(&VOLTAGES, 3, 4, 1);
 }

@@ -3,6 +3,7 @@ use crate::say::judged;
 use crate::say::number;
 use crate::say::refused;
 use crate::say::say;
+use crate::text::same_text;
 use table::Built;
 
 fn supply(cyclic: bool, order: usize, square: &mut [i16]) {
@@ -63,10 +64,8 @@ pub fn order_seven() {
     build(false, 7, 11, &mut square, &mask, &mut plan);
 }
 
-// The mask with 0 on the diagonal: 004's example 2.
-pub fn diagonal() {
-    let mut square = [0i16; 49];
-    let mut plan = [0i16; 31752];
+// The mask with 0 on the diagonal.
+fn diagonal_mask() -> [u8; 49] {
     let mut mask = [1u8; 49];
     mask[0] = 0;
     mask[8] = 0;
@@ -75,5 +74,30 @@ pub fn diagonal() {
     mask[32] = 0;
     mask[40] = 0;
     mask[48] = 0;
+    mask
+}
+
+// 004's example 2.
+pub fn diagonal() {
+    let mut square = [0i16; 49];
+    let mut plan = [0i16; 31752];
+    let mask = diagonal_mask();
     build(true, 7, 7, &mut square, &mask, &mut plan);
+}
+
+// The same with the table's voltages as they are printed, up to 15: a plan that is built at 100 holds them so. At P = 7 it is
+// beside the plan of their remainders.
+pub fn printed() {
+    let mut square = [0i16; 49];
+    let mut plan = [0i16; 31752];
+    let mut reduced = [0i16; 31752];
+    let mask = diagonal_mask();
+    table::cyclic(7, &mut square);
+    table::build(7, 100, &square, &mask, &mut plan);
+    table::build(7, 7, &square, &mask, &mut reduced);
+    say(b"cyclic 7 as printed, P = 7: ");
+    judged(&plan, 126, 252, 7, 12);
+    say(b", ");
+    same_text(&plan, &reduced, 126, 252, 7);
+    say(b"\n");
 }

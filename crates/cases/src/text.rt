@@ -1,6 +1,7 @@
 // alist text: the plan of the bench cases, and a call for others.
 use crate::say::refused;
 use crate::say::say;
+use alist::Comparison;
 use alist::Written;
 
 // Bytes enough for the longest text here.
@@ -22,6 +23,30 @@ pub fn alist_of(plan: &[i16], rows: usize, cols: usize, lift: usize) {
         Written::Refused(r) => {
             refused(r);
             say(b"\n");
+        }
+    }
+}
+
+// Bytes enough for the text of source 004's example 2.
+const LARGE: usize = 65536;
+
+// Writes the alist of a plan, and says whether it is that of another one.
+pub fn same_text(plan: &[i16], other: &[i16], rows: usize, cols: usize, lift: usize) {
+    let mut text = [0u8; LARGE];
+    let written = alist::write(plan, rows, cols, lift, &mut text);
+    match written {
+        Written::Written(length) => agreeing(other, rows, cols, lift, &text, length),
+        Written::Refused(r) => refused(r),
+    }
+}
+
+// Compares the first bytes of a text with the alist of a plan.
+fn agreeing(plan: &[i16], rows: usize, cols: usize, lift: usize, text: &[u8], length: usize) {
+    if length <= text.len() {
+        let compared = alist::compare(plan, rows, cols, lift, &text[0..length]);
+        match compared {
+            Comparison::Agrees => say(b"the same text"),
+            Comparison::Refused(r) => refused(r),
         }
     }
 }

@@ -4,3 +4,4 @@ pub mod Rules
 pub mod Tanner
 pub mod Turning
 pub mod Cases
+pub mod Remainders

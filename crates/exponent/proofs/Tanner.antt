@@ -3,13 +3,13 @@
 use Prim.Native.Nat.{ℕ, zero, suc, _+_, _-_, _*_, _/_, _%_, _≤_, _<_}
 use mathlib.Core.Path.{_≡_, refl, ap, subst, _∙_}
 use mathlib.Core.Logic.{_↔_}
-use mathlib.Core.Bool.{Bool, true, false, cond}
+use mathlib.Core.Bool.{true}
 use mathlib.Core.List.{List}
 use mathlib.Core.Option.{some}
 use native.Mathlib.Omega.{arith}
 use native.Mathlib.Nat.{mod-lt, div-add-mod', div-lt-iff-lt-mul}
-use borrow.Author.Tests.{eqb-true, eq-eqb, ltb-true}
-use lib.Dec.{eqb, ltb}
+use borrow.Author.Tests.{eqb-true, eq-eqb}
+use lib.Dec.{eqb}
 use lib.IntN.{ℤ, pos, negsuc}
 use lib.ListN.{getD, length}
 use Rattle.graph.specs.Count.{below, isSome}
@@ -27,18 +27,14 @@ use Rattle.exponent.proofs.Blocks.{hit, length-gather, Picks, select-ga
 
 -- A shift lies below the lift, whatever the plan holds.
 
-low-shift : (lift e x : ℕ) (t : Bool) → ltb e lift ≡ t → cond t (Shift e) Invalid ≡ Shift x → x < lift
-low-shift lift e x true h q = let s : e ≡ x = cc in omega (arith, ltb-true e lift h)
-low-shift lift e x false h q = absurd (let z : _≡_ {A = ℕ} 0 1 = cc in omega arith)
+pub block-shift : (lift : ℕ) (entry : ℤ) (e : ℕ) → 0 < lift → blockOf lift entry ≡ Shift e → e < lift
+block-shift lift (pos x) e h q = let s : x % lift ≡ e = cc in omega (arith, mod-lt x h)
+block-shift lift (negsuc zero) e h q = absurd (let z : _≡_ {A = ℕ} 0 1 = cc in omega arith)
+block-shift lift (negsuc (suc n)) e h q = absurd (let z : _≡_ {A = ℕ} 0 1 = cc in omega arith)
 
-pub block-shift : (lift : ℕ) (entry : ℤ) (e : ℕ) → blockOf lift entry ≡ Shift e → e < lift
-block-shift lift (pos x) e q = low-shift lift x e (ltb x lift) refl q
-block-shift lift (negsuc zero) e q = absurd (let z : _≡_ {A = ℕ} 0 1 = cc in omega arith)
-block-shift lift (negsuc (suc n)) e q = absurd (let z : _≡_ {A = ℕ} 0 1 = cc in omega arith)
-
-pub shift-low : (plan : List ℤ) (cols lift i j e : ℕ) → blockAt plan cols lift i j ≡ Shift e → e < lift
+pub shift-low : (plan : List ℤ) (cols lift i j e : ℕ) → 0 < lift → blockAt plan cols lift i j ≡ Shift e → e < lift
 unfolding blockAt entryAt
-shift-low plan cols lift i j e q = block-shift lift (getD plan (i * cols + j) (pos 0)) e q
+shift-low plan cols lift i j e h q = block-shift lift (getD plan (i * cols + j) (pos 0)) e h q
 
 -- ONE BLOCK. Its bit for check y, and its check for bit z: a bijection.
 
@@ -119,7 +115,7 @@ module _ (plan : List ℤ) (rows cols lift : ℕ) (some-lift : 0 < lift) where
       picks i h =
           record {
             low = check-low lift z some-lift (blockAt plan cols lift i j);
-            tests = λ y p. joins-at i y j z p q ∙ edge-check lift y z (blockAt plan cols lift i j) (shift-low plan cols lift i j) p q;
+            tests = λ y p. joins-at i y j z p q ∙ edge-check lift y z (blockAt plan cols lift i j) (λ e. shift-low plan cols lift i j e some-lift) p q;
           }
 
   -- a check has as many bits as its row has filled blocks, and a bit as many checks as its column

@@ -3,3 +3,4 @@ pub mod Limits
 pub mod Position
 pub mod Tanner
 pub mod Neighbours
+pub mod Remainders

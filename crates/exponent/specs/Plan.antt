@@ -1,21 +1,16 @@
 -- The exponent matrix (document 01, "The plan and its graph"): a list of rows × cols signed numbers, row by row.
-use Prim.Native.Nat.{ℕ, zero, suc, _+_, _*_}
-use mathlib.Core.Bool.{Bool, true, false, cond}
+use Prim.Native.Nat.{ℕ, zero, suc, _+_, _*_, _%_}
+use mathlib.Core.Bool.{Bool, true, false}
 use mathlib.Core.List.{List, [], _∷_}
-use lib.Dec.{ltb}
 use lib.IntN.{ℤ, pos, negsuc}
 use lib.ListN.{getD}
 use Rattle.exponent.specs.declared.block.Block.{Block}
 use Rattle.exponent.specs.declared.block.Block.the-variants.{Zero, Shift, Invalid}
 
--- a shift lies below the lift (block size)
-abbrev pub shiftBlock : ℕ → ℕ → Block
-shiftBlock lift e = cond (ltb e lift) (Shift e) Invalid
-
--- What an entry says: −1 is a zero block (document 01: empty), e from 0 to lift − 1 is the identity with its rows shifted
--- right by e (filled); any other number is invalid.
+-- What an entry says: −1 is a zero block (document 01: empty); a number from 0 on is the identity with its rows shifted right by the
+-- number's remainder by the lift (filled; document 02, slip 4); a number below −1 is invalid.
 abbrev pub blockOf : ℕ → ℤ → Block
-blockOf lift (pos e) = shiftBlock lift e
+blockOf lift (pos e) = Shift (e % lift)
 blockOf lift (negsuc zero) = Zero
 blockOf lift (negsuc (suc n)) = Invalid
 

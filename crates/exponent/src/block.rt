@@ -1,7 +1,7 @@
 ghost use mathlib.Core.Path.{_≡_};
-ghost use Prim.Native.Nat.{_+_, _*_, _<_};
+ghost use Prim.Native.Nat.{_+_, _*_, _%_, _<_};
 ghost use lib.ListN.{length};
-ghost use Rattle.exponent.specs.Plan.{shiftBlock, entryAt, blockAt, isInvalid, filled};
+ghost use Rattle.exponent.specs.Plan.{entryAt, blockAt, isInvalid, filled};
 
 // A block of the matrix: the zero block (document 01: empty), the identity shifted right (filled), or an entry that is neither.
 pub enum Block {
@@ -10,15 +10,17 @@ pub enum Block {
     Invalid,
 }
 
-// A shift, which is to be below the lift.
-fn shift_block(e: usize, lift: usize) -> Block
-    ensures { λ r. ⌜ r ≡ shiftBlock lift e ⌝ }
+// The remainder of a voltage by the lift, without a division where it is below the lift. By 0, which is no plan's lift, it is the voltage.
+fn remainder(e: usize, lift: usize) -> usize
+    ensures { λ r. ⌜ r ≡ e % lift ⌝ }
 {
     if e < lift {
-        Block::Shift(e)
-    } else {
-        Block::Invalid
+        return e;
     }
+    if lift == 0 {
+        return e;
+    }
+    e % lift
 }
 
 // The entry at a place of the list. No other function reads an entry of a plan.
@@ -28,7 +30,7 @@ pub fn entry_at(plan: &[i16], lift: usize, place: usize) -> Block
 {
     let e = plan[place];
     if e >= 0 {
-        return shift_block(e as usize, lift);
+        return Block::Shift(remainder(e as usize, lift));
     }
     if e >= -1 {
         return Block::Zero;

@@ -5,13 +5,13 @@ use mathlib.Core.Path.{_≡_, refl, sym, _∙_, ap, subst}
 use mathlib.Core.Logic.{_≢_}
 use mathlib.Core.Bool.{Bool, true, false}
 use mathlib.Core.List.{List, [], _∷_, map}
-use native.Mathlib.Nat.{mod-lt, zero-mul, zero-add}
+use native.Mathlib.Nat.{mod-lt, mod-eq-of-lt, zero-mul, zero-add}
 use native.Mathlib.Omega.{arith}
 use lib.Dec.{eqb}
 use lib.IntN.{ℤ, pos}
 use lib.ListN.{length, getD, length-map, List·getD-append}
 use lib.Seq.{getD-append-add}
-use borrow.Author.Tests.{eqb-true, lt-ltb}
+use borrow.Author.Tests.{eqb-true}
 use Rattle.graph.specs.Graph.{Bipartite, Joined}
 use Rattle.graph.specs.Girth.{Passes}
 use Rattle.graph.proofs.Decide.{both-ways, and-left, and-right}
@@ -41,14 +41,14 @@ use Rattle.grid.proofs.Corner.{no-round}
 -- ONE ENTRY. Its block is valid, and filled where the row meets the column.
 module _ (P e : ℕ) (low : e < P) where
   shift-is : blockOf P (pos e) ≡ Shift e
-  shift-is = rw (lt-ltb e P low)
+  shift-is = ap Shift (mod-eq-of-lt low)
 
   pub entry-valid : (m : Bool) → invalidEntry P (block m e) ≡ false
-  entry-valid true = rw (lt-ltb e P low)
+  entry-valid true = refl
   entry-valid false = refl
 
   pub entry-filled : (m : Bool) → filled (blockOf P (block m e)) ≡ m
-  entry-filled true = rw (lt-ltb e P low)
+  entry-filled true = refl
   entry-filled false = refl
 
   entry-edge : (m : Bool) (y z : ℕ) → edge (blockOf P (block m e)) P y z ≡ true → (m ≡ true) × (z ≡ (y + e) % P)

@@ -122,9 +122,9 @@ module _ (plan : List ℤ) (s : Shape) where
   weight-le side lane =
       omega (arith, weight-count side lane, count-le (filledOn plan s side lane) (below (blocks s side)), length-range 0 (blocks s side))
 
-  pub shift-on : (side : Side) (lane k e : ℕ) → blockOn plan s side lane k ≡ Shift e → e < s .lift
-  shift-on Bits lane k e q = shift-low plan (s .cols) (s .lift) k lane e q
-  shift-on Checks lane k e q = shift-low plan (s .cols) (s .lift) lane k e q
+  pub shift-on : (side : Side) (lane k e : ℕ) → 0 < s .lift → blockOn plan s side lane k ≡ Shift e → e < s .lift
+  shift-on Bits lane k e h q = shift-low plan (s .cols) (s .lift) k lane e h q
+  shift-on Checks lane k e h q = shift-low plan (s .cols) (s .lift) lane k e h q
 
   -- the filled blocks of a lane from block k on
   pub countFrom : Side → ℕ → ℕ → ℕ
@@ -159,6 +159,14 @@ module _ (plan : List ℤ) (s : Shape) where
     unfolding numberIn
     number-unfilled h q = rw (lt-ltb k (blocks s side) h, pick-none side (s .lift) y (blockOn plan s side lane k) q)
 
+    number-joined : k < blocks s side → filledOn plan s side lane k ≡ true → 0 < numberIn plan s side lane y k
+    number-joined h q = by (blockOn plan s side lane k) refl q
+      where
+        by : (b : Block) → blockOn plan s side lane k ≡ b → filled b ≡ true → 0 < numberIn plan s side lane y k
+        by Zero e t = both-ways t refl
+        by (Shift d) e t = omega (arith, number-filled h d e)
+        by Invalid e t = both-ways t refl
+
   -- the neighbours of node x from block k on
   pub rest-end : (side : Side) (x k : ℕ) → blocks s side ≤ k → restOf plan s side x k ≡ []
   unfolding restOf gather
@@ -175,18 +183,6 @@ module _ (plan : List ℤ) (s : Shape) where
           → gather (s .lift) (pickOn plan s side (x / s .lift) (x % s .lift)) (k ∷ range (k + 1) (blocks s side - (k + 1))) ≡ y ∷ gather (s .lift) (pickOn plan s side (x / s .lift) (x % s .lift)) (range (k + 1) (blocks s side - (k + 1)))
       step none p q = absurd (omega arith)
       step (some v) p q = gather-some _ _ _ _ v p ∙ ap (λ (n : ℕ). n ∷ gather (s .lift) (pickOn plan s side (x / s .lift) (x % s .lift)) (range (k + 1) (blocks s side - (k + 1)))) (omega arith)
-
-  rest-miss : (side : Side) (x k : ℕ) → numberIn plan s side (x / s .lift) (x % s .lift) k ≡ 0 → restOf plan s side x k ≡ restOf plan s side x (k + 1)
-  unfolding restOf numberIn
-  rest-miss side x k e =
-      by-le (blocks s side) k
-      (λ h. rw (range-end k (blocks s side) h, range-end (k + 1) (blocks s side) (omega arith)))
-      (λ h. rw (range-next k (blocks s side) h) (step (pickOn plan s side (x / s .lift) (x % s .lift) k) refl (rw (lt-ltb k (blocks s side) h) at e)))
-    where
-      step : (o : Option ℕ) → pickOn plan s side (x / s .lift) (x % s .lift) k ≡ o → numbered (s .lift) k o ≡ 0
-          → gather (s .lift) (pickOn plan s side (x / s .lift) (x % s .lift)) (k ∷ range (k + 1) (blocks s side - (k + 1))) ≡ gather (s .lift) (pickOn plan s side (x / s .lift) (x % s .lift)) (range (k + 1) (blocks s side - (k + 1)))
-      step none p q = gather-none _ _ _ _ p
-      step (some v) p q = absurd (omega arith)
 
   module _ (w : WellFormed plan (s .rows) (s .cols) (s .lift)) where
     -- the neighbours of a node, and its degree
@@ -227,15 +223,22 @@ module _ (plan : List ℤ) (s : Shape) where
       count-turn = jump (count (filledOn plan s side lane)) (filledOn plan s side lane) (λ k l q. rw q (omega arith)) k (blocks s side) m next ∙ count-next side lane m
 
     module _ (side : Side) (x k m : ℕ) (h : x < nodeCount s side) (i : k < blocks s side) (e : m ≡ nextBlock down along s side (x / s .lift) k) where
+      landed : NextFrom (filledOn plan s side (x / s .lift)) k (blocks s side) m
+      landed = next side (x / s .lift) k m (node-lane s side x (r .well .some-lift) h) i e
+
       jumped : restOf plan s side x k ≡ restOf plan s side x m
       unfolding restOf
       jumped =
           jump (gather (s .lift) (pickOn plan s side (x / s .lift) (x % s .lift))) (filledOn plan s side (x / s .lift))
           (λ k l q. gather-none (s .lift) (pickOn plan s side (x / s .lift) (x % s .lift)) k l (pick-none side (s .lift) (x % s .lift) (blockOn plan s side (x / s .lift) k) q))
-          k (blocks s side) m (next side (x / s .lift) k m (node-lane s side x (r .well .some-lift) h) i e)
+          k (blocks s side) m landed
 
       pub rest-hit : (y : ℕ) → numberIn plan s side (x / s .lift) (x % s .lift) m ≡ suc y → restOf plan s side x k ≡ y ∷ restOf plan s side x (m + 1)
       rest-hit y q = jumped ∙ rest-next side x m y q
 
-      pub rest-turn : numberIn plan s side (x / s .lift) (x % s .lift) m ≡ 0 → restOf plan s side x k ≡ restOf plan s side x (m + 1)
-      rest-turn q = jumped ∙ rest-miss side x m q
+      -- a jump that finds no neighbour comes to the end
+      pub rest-none : numberIn plan s side (x / s .lift) (x % s .lift) m ≡ 0 → (restOf plan s side x k ≡ []) × (restOf plan s side x (m + 1) ≡ [])
+      rest-none q =
+          by-le (blocks s side) m
+          (λ past. (jumped ∙ rest-end side x m past, rest-end side x (m + 1) (omega arith)))
+          (λ low. absurd (omega (arith, number-joined side (x / s .lift) (x % s .lift) m low (landed .passes low))))

@@ -31,19 +31,18 @@ pub fn next_neighbour(
     requires { ⌜ Ready (now plan) s (now down) (now along) × (x < nodeCount s side) ⌝ }
     ensures { λ r. ⌜ Fills (restOf (now (plan .entry)) s side x) from r ⌝ }
 {
-    let limit = sides::blocks(s, side);
-    let lane = x / s.lift;
-    let y = x % s.lift;
-    let mut k = from;
-    while k < limit {
-        let block = sides::next_block(down, along, s, side, lane, k);
-        k = block + 1;
-        let n = sides::number_in(plan, s, side, lane, y, block);
-        if 0 < n {
-            return Number { value: n, next: k };
-        }
+    if sides::blocks(s, side) <= from {
+        return Number {
+            value: 0,
+            next: from,
+        };
     }
-    Number { value: 0, next: k }
+    let lane = x / s.lift;
+    let block = sides::next_block(down, along, s, side, lane, from);
+    Number {
+        value: sides::number_in(plan, s, side, lane, x % s.lift, block),
+        next: block + 1,
+    }
 }
 
 // The degree of node k: that of the node before it, `last`, unless a lane begins here.

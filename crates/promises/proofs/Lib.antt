@@ -11,3 +11,4 @@ pub mod Three
 pub mod Table
 pub mod Cases
 pub mod Counts
+pub mod Remainders

@@ -14,39 +14,35 @@ use Rattle.refusal.specs.Lowest.{refuse, In}
 use Rattle.refusal.specs.Place.{First, firstPlace, somewhere}
 use Rattle.refusal.proofs.Place.{first-exactly}
 use Rattle.graph.specs.Count.{member}
-use Rattle.graph.proofs.Decide.{by-bool, both-ways, neither}
+use Rattle.graph.proofs.Decide.{both-ways, neither}
 use Rattle.exponent.specs.Plan.{invalidEntry}
 use Rattle.exponent.specs.Limits.{outside, planRules}
 use Rattle.exponent.proofs.Rules.{outside-exactly}
 use Rattle.girth.specs.Test.{allowed, testRules}
-use Rattle.promises.specs.TurnedAway.{row-3, IsBlock, empty, filled, PlanRow, row-1, row-2, of-lift, row-4, row-5, row-6, TargetRow, row-14, _or_}
+use Rattle.promises.specs.TurnedAway.{row-3, BelowMinusOne, is-below, PlanRow, row-1, row-2, of-lift, row-4, row-5, row-6, TargetRow, row-14, _or_}
 use Rattle.promises.proofs.Matching.{Listed, RowOf, Matches, join, by-rule, no-rule, at-rule, further, one-rule}
 
 -- two numbers that the test finds different
 pub differs : (m n : ℕ) → (not (eqb m n) ≡ true) ↔ (m ≢ n)
 differs m n = (λ e q. eqb-false m n (not-true (eqb m n) e) q, λ h. ap not (ne-eqb m n h))
 
--- an entry is invalid exactly where it is no block
-is-block : {lift : ℕ} {z : ℤ} → IsBlock lift z → invalidEntry lift z ≡ false
-is-block empty = refl
-is-block {lift} (filled e h) = rw (lt-ltb e lift h)
+-- an entry is found invalid exactly where it is below −1, whatever the lift
+invalid-exactly : (lift : ℕ) (z : ℤ) → (invalidEntry lift z ≡ true) ↔ BelowMinusOne z
+invalid-exactly lift z = (is-invalid z, found)
+  where
+    is-invalid : (z : ℤ) → invalidEntry lift z ≡ true → BelowMinusOne z
+    is-invalid (pos n) e = both-ways e refl
+    is-invalid (negsuc zero) e = both-ways e refl
+    is-invalid (negsuc (suc n)) e = is-below n
 
-block-is : (lift : ℕ) (z : ℤ) → invalidEntry lift z ≡ false → IsBlock lift z
-block-is lift (pos n) t = by-bool (ltb n lift) (λ e. filled n (ltb-true n lift e)) (λ e. both-ways refl (rw e at t))
-block-is lift (negsuc zero) t = empty
-block-is lift (negsuc (suc n)) t = both-ways refl t
-
-invalid-exactly : (lift : ℕ) (z : ℤ) → (invalidEntry lift z ≡ true) ↔ (IsBlock lift z → ⊥)
-invalid-exactly lift z = (
-  λ e b. both-ways e (is-block b),
-  λ h. by-bool (invalidEntry lift z) (λ e. e) (λ e. absurd (h (block-is lift z e))),
-)
+    found : {z : ℤ} → BelowMinusOne z → invalidEntry lift z ≡ true
+    found (is-below n) = refl
 
 -- 1 TO 6
 module _ (plan : List ℤ) (rows cols lift : ℕ) where
   first-invalid : (place : ℕ) → ((somewhere (invalidEntry lift) plan ≡ true) × (firstPlace (invalidEntry lift) plan ≡ place))
-      ↔ First (length plan) (λ p. IsBlock lift (getD plan p (pos 0)) → ⊥) place
-  first-invalid place = first-exactly (invalidEntry lift) (pos 0) (λ z. IsBlock lift z → ⊥) (invalid-exactly lift) plan place
+      ↔ First (length plan) (λ p. BelowMinusOne (getD plan p (pos 0))) place
+  first-invalid place = first-exactly (invalidEntry lift) (pos 0) BelowMinusOne (invalid-exactly lift) plan place
 
   abbrev Row : Refusal → Type 0
   Row = RowOf (PlanRow plan rows cols lift)

@@ -6,3 +6,4 @@ pub mod Table
 pub mod Cases
 pub mod Texts
 pub mod Counts
+pub mod Remainders

@@ -1,6 +1,6 @@
 -- The rows of "Turned away" (document 01), by who can cause them: when each number applies, and with which values. Each row stands here
 -- once; the refusals of a call are its rows together (One.antt). Places count from 0.
-use Prim.Native.Nat.{ℕ, _+_, _-_, _*_, _≤_, _<_, max}
+use Prim.Native.Nat.{ℕ, suc, _+_, _-_, _*_, _≤_, _<_, max}
 use mathlib.Core.Path.{_≡_}
 use mathlib.Core.Logic.{_↔_, _⊎_, _≢_}
 use mathlib.Core.List.{List, [], _∷_}
@@ -30,19 +30,18 @@ Outside low high n = (n < low) ⊎ (high < n)
 pub data LiftRow (lift : ℕ) : ℕ → List ℕ → Type 0 where
   row-3 : Outside 1 4096 lift → LiftRow lift 3 []
 
--- −1 is an empty block, e from 0 to lift − 1 a filled one
-pub data IsBlock (lift : ℕ) : ℤ → Type 0 where
-  empty : IsBlock lift (negsuc 0)
-  filled : (e : ℕ) → e < lift → IsBlock lift (pos e)
+-- no block (document 02, slip 4): −1 is an empty one, and every number from 0 on a filled one
+pub data BelowMinusOne : ℤ → Type 0 where
+  is-below : (n : ℕ) → BelowMinusOne (negsuc (suc n))
 
--- 1 to 6: rows, columns, block size, bits, the list's length, the first entry that is no block
+-- 1 to 6: rows, columns, block size, bits, the list's length, the first entry below −1
 pub data PlanRow (plan : List ℤ) (rows cols lift : ℕ) : ℕ → List ℕ → Type 0 where
   row-1 : Outside 1 192 rows → PlanRow plan rows cols lift 1 []
   row-2 : Outside 1 512 cols → PlanRow plan rows cols lift 2 []
   of-lift : (n : ℕ) (l : List ℕ) → LiftRow lift n l → PlanRow plan rows cols lift n l
   row-4 : 65536 < cols * lift → PlanRow plan rows cols lift 4 []
   row-5 : length plan ≢ rows * cols → PlanRow plan rows cols lift 5 []
-  row-6 : (place : ℕ) → First (length plan) (λ p. IsBlock lift (getD plan p (pos 0)) → ⊥) place → PlanRow plan rows cols lift 6 (place ∷ [])
+  row-6 : (place : ℕ) → First (length plan) (λ p. BelowMinusOne (getD plan p (pos 0))) place → PlanRow plan rows cols lift 6 (place ∷ [])
 
 -- 14: the target
 pub data TargetRow (target : ℕ) : ℕ → List ℕ → Type 0 where

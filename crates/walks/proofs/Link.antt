@@ -87,7 +87,7 @@ module _ (plan : List ℤ) (s : Shape) where
           shift = e;
           block = h;
           forth = f;
-          back = undo P some-lift e (P - e) (c % P) (b % P) (omega (arith, shift-low plan (s .cols) P (c / P) (b / P) e h)) (mod-lt c some-lift) f;
+          back = undo P some-lift e (P - e) (c % P) (b % P) (omega (arith, shift-low plan (s .cols) P (c / P) (b / P) e some-lift h)) (mod-lt c some-lift) f;
         }
 
     over-edge : (c b e : ℕ) → c < s .rows * P → b < s .cols * P → block (c / P) (b / P) ≡ Shift e → (c % P + e) % P ≡ b % P → Joined (graphOf plan s) c b
@@ -129,7 +129,7 @@ module _ (plan : List ℤ) (s : Shape) where
           let (t, (x, w, k)) = taken (back P (bitFrom P c b) i) next (block i (b / P)) (eqb i (c / P)) l e in
           let a = numbered (s .rows) i ((b % P + (P - x)) % P) h (mod-lt (b % P + (P - x)) some-lift) in
           let r : checkFrom P b (a .number) ≡ back P (bitFrom P c b) i x = λ i. record { row = a .block i; col = b / P; voltage = a .place i } in
-          let f = undo P some-lift (P - x) x (b % P) (a .number % P) (omega (arith, shift-low plan (s .cols) P i (b / P) x w)) (mod-lt b some-lift) (sym (a .place)) in
+          let f = undo P some-lift (P - x) x (b % P) (a .number % P) (omega (arith, shift-low plan (s .cols) P i (b / P) x some-lift w)) (mod-lt b some-lift) (sym (a .place)) in
           let joined = over-edge (a .number) b x (a .low) low (ap (λ (y : ℕ). block y (b / P)) (a .block) ∙ w) f in
           (a .number, a .block, joined, apart P i c (a .number) t (a .block), ap next r ∙ k)
 

@@ -1,5 +1,5 @@
 //! Sparse lists of a plan, and a walk over the numbers of its alist.
-use crate::common::OwnedPlan;
+use crate::common::{shift, OwnedPlan};
 
 /// The filled blocks of each row (its columns, with their shifts) and of each column (its rows), in
 /// 32-bit numbers: with 64 bits the references take a tenth longer.
@@ -15,8 +15,9 @@ pub fn lists(plan: &OwnedPlan) -> Lists {
     for (i, row) in plan.entries.chunks_exact(plan.cols).enumerate() {
         for (j, &e) in row.iter().enumerate() {
             if e >= 0 {
-                by_row[i].push((j as u32, e as u32));
-                by_col[j].push((i as u32, e as u32));
+                let e = shift(e, plan.lift) as u32;
+                by_row[i].push((j as u32, e));
+                by_col[j].push((i as u32, e));
             }
         }
     }

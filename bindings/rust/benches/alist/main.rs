@@ -6,7 +6,7 @@
 //! and writes" does what the call does for an exact place: it judges the plan, builds sparse lists of it, adds up the text's
 //! length, finds that it fits, and writes. The one that "writes at once" does the same without the length. The one with the
 //! "plan prepared once" only writes: its lists were made before the clock started. The lent bytes are not cleared between
-//! texts.
+//! texts. The exact place is tried again with the same plan's voltages above the lift.
 //!
 //! The comparer runs on the padded text; on the unpadded text of an irregular plan, which is the same plan with every seventh
 //! block emptied; and on a wrong text, padded with one token too many, which is read to its end in both forms. Beside it stand
@@ -19,7 +19,7 @@ mod comparers;
 mod lists;
 mod writers;
 
-use common::{cyclic_plan, OwnedPlan};
+use common::{cyclic_plan, printed, OwnedPlan};
 use lists::Form;
 use writers::text;
 
@@ -36,6 +36,7 @@ fn main() {
     println!("alist of {} bits, {} bytes", plan.bits(), padded.len());
     writers::beside("exact", &plan, padded.len());
     writers::beside("roomy", &plan, 1 << 20);
+    writers::beside("exact (voltages above the lift)", &printed(&plan), padded.len());
     comparers::beside("padded", &plan, &padded, Ok(()));
     let irregular = irregular(&plan);
     comparers::beside("unpadded", &irregular, &text(&irregular, Form::Unpadded), Ok(()));

@@ -1,4 +1,4 @@
-//! What the benchmarks share: table plans, and the clock.
+//! What the benchmarks share: table plans, what the references do with a plan, and the clock.
 #![allow(dead_code)] // each benchmark uses a part
 pub use qcldpc::OwnedPlan;
 use std::hint::black_box;
@@ -13,6 +13,12 @@ pub fn cyclic_plan(order: usize, lift: usize, mask: &[u8], weight: usize) -> Own
     OwnedPlan { entries, rows: built.rows, cols: built.cols, lift }
 }
 
+/// The plan with voltages as some program may print them: one to five times the lift above their remainders.
+pub fn printed(plan: &OwnedPlan) -> OwnedPlan {
+    let above = |(k, &e): (usize, &i16)| if e < 0 { e } else { e + ((1 + k % 5) * plan.lift) as i16 };
+    OwnedPlan { entries: plan.entries.iter().enumerate().map(above).collect(), ..*plan }
+}
+
 /// Refusals 1 to 6, as a plain implementation finds them.
 pub fn judge(plan: &OwnedPlan) -> Result<(), u64> {
     let OwnedPlan { entries, rows, cols, lift } = plan;
@@ -22,8 +28,18 @@ pub fn judge(plan: &OwnedPlan) -> Result<(), u64> {
         _ if !(1..=4096).contains(lift) => Err(3),
         _ if cols * lift > 65536 => Err(4),
         _ if entries.len() != rows * cols => Err(5),
-        _ if entries.iter().any(|&e| e < -1 || e >= *lift as i16) => Err(6),
+        _ if entries.iter().any(|&e| e < -1) => Err(6),
         _ => Ok(()),
+    }
+}
+
+/// The shift of a filled block: its voltage's remainder by the lift, without a division where it is below the lift.
+pub fn shift(e: i16, lift: usize) -> usize {
+    let e = e as usize;
+    if e < lift {
+        e
+    } else {
+        e % lift
     }
 }
 

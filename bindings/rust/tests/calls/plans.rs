@@ -17,9 +17,9 @@ pub fn pairs() -> OwnedPlan {
     plan_of(192, 383, 171, |i, j| if j / 2 == i { 170 } else { -1 })
 }
 
-/// All blocks are filled.
+/// All blocks are filled, with one remainder; most voltages are above the lift.
 pub fn full(lift: usize) -> OwnedPlan {
-    plan_of(192, 512, lift, |_, _| lift as i16 - 1)
+    plan_of(192, 512, lift, |i, j| (lift - 1 + (i + j) % 8 * lift) as i16)
 }
 
 /// All columns, the largest lift, all blocks filled, and the largest table plan.
@@ -45,7 +45,7 @@ fn refused() -> [(OwnedPlan, Refusal); 6] {
         (zeros(192, 15, 4097), refusal(3, &[])),
         (zeros(192, 512, 129), refusal(4, &[])),
         (short, refusal(5, &[])),
-        (plan_of(192, 512, 128, |i, j| if i == 191 && j == 511 { 128 } else { -1 }), refusal(6, &[192 * 512 - 1])),
+        (plan_of(192, 512, 128, |i, j| if i == 191 && j == 511 { -2 } else { -1 }), refusal(6, &[192 * 512 - 1])),
     ]
 }
 

@@ -1,6 +1,6 @@
 //! alist text: the writer and the comparer.
 use crate::door::{agree, left, lend_bytes, lend_numbers, no_room, reply, with_room, Short};
-use crate::inputs::{any_plan, holed_plan, limit_plans, regular_plan, small_plan, OwnedPlan};
+use crate::inputs::{any_plan, every_entry, holed_plan, limit_plans, regular_plan, small_plan, OwnedPlan};
 use crate::random::Random;
 use crate::reference;
 use crate::reference::alist::{Alist, Form};
@@ -33,7 +33,7 @@ fn compare_write(plan: &Plan, lent: &[u8], met: &mut Met) {
     let mut copy = lent.to_vec();
     agree(input, &qcldpc::alist_write(plan, &mut copy), &answer);
     agree(input, &copy, &after);
-    met.seen.note(&answer);
+    met.seen.note_on(plan, &answer);
 }
 
 // The answer that a text should get.
@@ -56,7 +56,7 @@ fn compare_text(plan: &Plan, alist: &Result<Alist, Refusal>, text: &[u8], met: &
     left(input, &p, plan.entries);
     left(input, &t, text);
     agree(input, &qcldpc::alist_compare(plan, text), &wanted);
-    met.seen.note(&wanted);
+    met.seen.note_on(plan, &wanted);
 }
 
 fn compare_texts(plan: &OwnedPlan, texts: &[Vec<u8>], met: &mut Met) {
@@ -125,6 +125,7 @@ pub fn compare_all() -> Seen {
     let (random, mut met) = (Random::new(6), Met::default());
     compare_tiny(&mut met);
     compare_large(&random, &mut met);
+    every_entry(3).for_each(|plan| compare_exact(&plan, &mut met));
     (0..3000).for_each(|_| compare_small(&random, &mut met));
     (0..1000).for_each(|_| compare_lines(&random, &mut met));
     println!("alist: {}", met.forms);

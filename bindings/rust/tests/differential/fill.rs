@@ -1,6 +1,6 @@
 //! The decoder.
 use crate::door::{agree, left, lend_bytes, lend_numbers, no_room, reply, with_room, Short};
-use crate::inputs::{any_plan, column_plan, limit_plans, small_plan, OwnedPlan};
+use crate::inputs::{any_plan, column_plan, every_entry, limit_plans, small_plan, OwnedPlan};
 use crate::random::Random;
 use crate::reference;
 use crate::reference::fill::{largest_stuck_set, union_of_stuck_sets};
@@ -28,7 +28,7 @@ pub fn compare(plan: &Plan, word: &[u8], seen: &mut Seen) -> Option<Fill> {
     let mut copy = word.to_vec();
     agree(input, &qcldpc::fill(plan, &mut copy), &answer);
     agree(input, &copy, &after);
-    seen.note(&answer);
+    seen.note_on(plan, &answer);
     answer.ok()
 }
 
@@ -71,6 +71,8 @@ pub fn compare_all() -> Seen {
     let mut large = limit_plans(&random);
     large.extend(built_plans(&random));
     large.iter().for_each(|plan| compare_large(&random, plan, &mut seen));
+    // By an even e both stay lost, by an odd one they are filled.
+    every_entry(2).for_each(|plan| _ = compare(&plan.lent(), &[2, 0, 2, 0], &mut seen));
     let mut in_part = 0;
     for k in 0..12000 {
         let plan = match k % 3 {

@@ -1,6 +1,6 @@
 //! The girth test.
 use crate::door::{agree, left, lend_numbers, no_room, reply, with_room, Short, BEFORE};
-use crate::inputs::{any_plan, column_plan, limit_plans, OwnedPlan};
+use crate::inputs::{any_plan, column_plan, every_entry, limit_plans, OwnedPlan};
 use crate::random::Random;
 use crate::reference;
 use crate::reference::graph::{graph, Graph};
@@ -17,7 +17,7 @@ fn compare_refused(plan: &Plan, target: usize, seen: &mut Seen) {
     let input = &(Short(plan), target);
     agree(input, raw_reply(plan, target), reply(&Err(wanted.clone())));
     agree(input, &qcldpc::girth(plan, target), &Err(wanted.clone()));
-    seen.note(&Err::<(), _>(wanted));
+    seen.note_on(plan, &Err::<(), _>(wanted));
 }
 
 // What the raw function returns and leaves in `out`.
@@ -47,7 +47,7 @@ fn out_of(checks: &[usize], bits: &[usize]) -> Vec<u64> {
 fn compare_good(plan: &Plan, graph: &Graph, girth: usize, target: usize, seen: &mut Seen) {
     let input = &(Short(plan), target);
     let answer = qcldpc::girth(plan, target);
-    seen.note(&answer);
+    seen.note_on(plan, &answer);
     let answer = answer.unwrap_or_else(|refusal| panic!("{refusal} for {input:?}"));
     agree(input, answer.girth(), (girth < target).then_some(girth));
     let (checks, bits) = match answer {
@@ -125,6 +125,8 @@ pub fn compare_all() -> Seen {
     }
     compare(&cyclic_plan(4, 1024).lent(), &mut seen);
     compare_rings(&mut seen);
+    // By the remainders 0 to 3 of e: girth 4, 16, 8, 16.
+    every_entry(4).for_each(|plan| _ = compare(&plan.lent(), &mut seen));
     let mut met = [0; 13];
     for k in 0..6000 {
         let plan = if k < 3000 { any_plan(&random, 8) } else { likely_plan(&random) };

@@ -2,6 +2,29 @@
 use crate::random::Random;
 pub use qcldpc::OwnedPlan;
 
+// The largest entry of 16 bits.
+const LARGEST: usize = i16::MAX as usize;
+
+// An entry that leaves a remainder by the lift: the remainder itself, or with a multiple of the lift added.
+fn printed(random: &Random, remainder: usize, lift: usize) -> i16 {
+    let most = (LARGEST - remainder) / lift;
+    (remainder + lift * random.choice(&[0, 0, 1, random.between(0, most), most])) as i16
+}
+
+// In half of the plans all entries stay below the lift; in the others each voltage stands as some program may print it.
+fn as_printed(random: &Random, mut plan: OwnedPlan) -> OwnedPlan {
+    if random.once_in(2) {
+        let filled = plan.entries.iter_mut().filter(|entry| **entry >= 0);
+        filled.for_each(|entry| *entry = printed(random, *entry as usize, plan.lift));
+    }
+    plan
+}
+
+/// The plan 0 0 / 0 e for every entry e that there is.
+pub fn every_entry(lift: usize) -> impl Iterator<Item = OwnedPlan> {
+    (i16::MIN..=i16::MAX).map(move |e| OwnedPlan { entries: vec![0, 0, 0, e], rows: 2, cols: 2, lift })
+}
+
 /// A plan of a shape in which each block is filled with the chance `density` in 8.
 pub fn plan_of(random: &Random, rows: usize, cols: usize, lift: usize, density: usize) -> OwnedPlan {
     let limit = random.choice(&[1, 2, lift, lift, lift]).min(lift);
@@ -9,7 +32,7 @@ pub fn plan_of(random: &Random, rows: usize, cols: usize, lift: usize, density: 
         true => random.choice(&[random.below(limit), random.below(lift), lift - 1, limit - 1]) as i16,
         false => -1,
     };
-    OwnedPlan { entries: (0..rows * cols).map(entry).collect(), rows, cols, lift }
+    as_printed(random, OwnedPlan { entries: (0..rows * cols).map(entry).collect(), rows, cols, lift })
 }
 
 /// A small plan of any density, from all blocks empty to all filled.
@@ -28,7 +51,7 @@ pub fn column_plan(random: &Random, rows: usize, cols: usize, lift: usize, weigh
             entries[i * cols + j] = random.below(lift) as i16;
         }
     }
-    OwnedPlan { entries, rows, cols, lift }
+    as_printed(random, OwnedPlan { entries, rows, cols, lift })
 }
 
 /// A small plan with an empty row and an empty column beside filled blocks.
@@ -54,7 +77,7 @@ pub fn regular_plan(random: &Random) -> OwnedPlan {
         true => random.below(lift) as i16,
         false => -1,
     };
-    OwnedPlan { entries: (0..size * size).map(entry).collect(), rows: size, cols: size, lift }
+    as_printed(random, OwnedPlan { entries: (0..size * size).map(entry).collect(), rows: size, cols: size, lift })
 }
 
 /// Plans at the limits of rows, columns, lift and bits.
@@ -100,8 +123,7 @@ pub fn damage_plan(random: &Random, plan: &mut OwnedPlan) {
             _ => {
                 for _ in 0..random.between(1, 3).min(plan.entries.len()) {
                     let place = random.below(plan.entries.len());
-                    let over = plan.lift.min(32767) as i16;
-                    plan.entries[place] = random.choice(&[-2, over, over.saturating_add(1), i16::MAX, i16::MIN, -256]);
+                    plan.entries[place] = random.choice(&[-2, -3, -256, i16::MIN + 1, i16::MIN]);
                 }
             }
         }

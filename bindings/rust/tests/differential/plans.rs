@@ -1,6 +1,6 @@
 //! The plan check.
 use crate::door::{agree, left, lend_numbers, no_room, reply, with_room, Short};
-use crate::inputs::{any_plan, limit_plans, OwnedPlan};
+use crate::inputs::{any_plan, every_entry, limit_plans, OwnedPlan};
 use crate::random::Random;
 use crate::reference;
 use crate::seen::Seen;
@@ -18,7 +18,7 @@ pub fn compare(plan: &Plan, seen: &mut Seen) {
     agree(input, with_room(&mut call), reply(&wanted.clone().map(|_| vec![])));
     left(input, &lent, plan.entries);
     agree(input, &qcldpc::check(plan), &wanted);
-    seen.note(&wanted);
+    seen.note_on(plan, &wanted);
 }
 
 /// All ways in which limits can be passed by one.
@@ -39,6 +39,7 @@ pub fn compare_all() -> Seen {
     let (random, mut seen) = (Random::new(1), Seen::default());
     limit_plans(&random).iter().for_each(|plan| compare(&plan.lent(), &mut seen));
     edges().iter().for_each(|plan| compare(&plan.lent(), &mut seen));
+    [1, 7, 4096].into_iter().flat_map(every_entry).for_each(|plan| compare(&plan.lent(), &mut seen));
     for _ in 0..20000 {
         compare(&any_plan(&random, 2).lent(), &mut seen);
     }

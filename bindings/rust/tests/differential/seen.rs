@@ -1,10 +1,13 @@
 //! Which answers a subject's inputs have met.
 use crate::reference::alist::Departures;
+use qcldpc::Plan;
 use std::fmt;
 
 #[derive(Clone, Default)]
 pub struct Seen {
     pub results: usize,
+    /// Those of them whose plan has a voltage at or above its lift.
+    pub printed: usize,
     refusals: [usize; 22],
 }
 
@@ -16,6 +19,13 @@ impl Seen {
         }
     }
 
+    /// The answer of a call that was given a plan.
+    pub fn note_on<T>(&mut self, plan: &Plan, answer: &Result<T, qcldpc::Refusal>) {
+        self.note(answer);
+        let printed = plan.entries.iter().any(|&entry| entry >= 0 && entry as usize >= plan.lift);
+        self.printed += (answer.is_ok() && printed) as usize;
+    }
+
     pub fn refusals(&self, number: usize) -> usize {
         self.refusals[number]
     }
@@ -24,6 +34,9 @@ impl Seen {
 impl fmt::Display for Seen {
     fn fmt(&self, f: &mut fmt::Formatter) -> fmt::Result {
         write!(f, "{} results", self.results)?;
+        if self.printed > 0 {
+            write!(f, " ({} with a voltage at or above the lift)", self.printed)?;
+        }
         let met = (1..22).filter(|&n| self.refusals[n] > 0);
         met.into_iter().try_for_each(|n| write!(f, ", {} of refusal {n}", self.refusals[n]))
     }

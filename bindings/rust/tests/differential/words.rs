@@ -1,6 +1,6 @@
 //! The syndrome check, and words of all kinds.
 use crate::door::{agree, left, lend_bytes, lend_numbers, no_room, reply, with_room, Short};
-use crate::inputs::{any_plan, limit_plans, OwnedPlan};
+use crate::inputs::{any_plan, every_entry, limit_plans, OwnedPlan};
 use crate::random::Random;
 use crate::reference;
 use crate::reference::gf2::{Solved, System};
@@ -27,7 +27,7 @@ fn compare(plan: &Plan, word: &[u8], seen: &mut Seen) -> Option<Syndrome> {
     left(input, &p, plan.entries);
     left(input, &w, word);
     agree(input, &qcldpc::syndrome(plan, word), &wanted);
-    seen.note(&wanted);
+    seen.note_on(plan, &wanted);
     wanted.ok()
 }
 
@@ -93,6 +93,8 @@ pub fn compare_all() -> Seen {
             compare(&plan.lent(), &word, &mut seen);
         }
     }
+    // By the remainders 0 to 4 of e: all even, or the lowest odd check is 8, 7, 6, 5.
+    every_entry(5).for_each(|plan| _ = compare(&plan.lent(), &[0, 0, 0, 0, 1, 0, 0, 0, 0, 1], &mut seen));
     let mut even = 0;
     for _ in 0..8000 {
         let plan = any_plan(&random, 8);

@@ -42,7 +42,7 @@ enum-known-b : tie.Need-enum-known-b
 enum-known-b c = search needs
 
 sub-y : tie.Need-sub-y
-sub-y c = omega (arith, shift-low _ _ _ _ _ _ (sym (c .before .before .before .before .block-at .ensures) ∙ c .before .before .b .given .1))
+sub-y c = omega (arith, shift-low _ _ _ _ _ _ (omega arith) (sym (c .before .before .before .before .block-at .ensures) ∙ c .before .before .b .given .1))
 
 add-y : tie.Need-add-y
 add-y c = search needs

@@ -1,4 +1,4 @@
-//! The expanded graph: check (i, y) joins bit (j, (y + e) mod P) where the entry at (i, j) is e ≥ 0.
+//! The expanded graph: check (i, y) joins bit (j, (y + e) mod P) where the entry at (i, j) has a remainder e by P, being 0 or more.
 use qcldpc::Plan;
 
 pub struct Graph {
@@ -16,9 +16,10 @@ pub fn graph(plan: &Plan) -> Graph {
     for (check, bits) in bits_of.iter_mut().enumerate() {
         let (i, y) = (check / p, check % p);
         for j in 0..plan.cols {
-            let e = plan.entries[i * plan.cols + j];
-            if e >= 0 {
-                let bit = j * p + (y + e as usize) % p;
+            let entry = plan.entries[i * plan.cols + j];
+            if entry >= 0 {
+                let e = entry as usize % p;
+                let bit = j * p + (y + e) % p;
                 bits.push(bit);
                 checks_of[bit].push(check);
             }

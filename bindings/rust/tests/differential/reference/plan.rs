@@ -19,8 +19,7 @@ pub fn check(plan: &Plan) -> Result<(), Refusal> {
     if plan.entries.len() as u128 != rows * cols {
         return Err(refused(5, &[]));
     }
-    let good = |e: i16| e == -1 || (e >= 0 && (e as u128) < lift);
-    match plan.entries.iter().position(|&e| !good(e)) {
+    match plan.entries.iter().position(|&e| e < -1) {
         Some(place) => Err(refused(6, &[place])),
         None => Ok(()),
     }

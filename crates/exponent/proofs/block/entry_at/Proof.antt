@@ -1,7 +1,7 @@
 -- `exponent::block::entry_at` meets its contract: the two tests of the number's sign say which case of `blockOf` holds.
 -- Assumes nothing.
-use Prim.Native.Nat.{ℕ, zero, suc, _<_, zero-le}
-use mathlib.Core.Path.{_≡_, refl, sym, _∙_, subst}
+use Prim.Native.Nat.{ℕ, zero, suc, _%_, _<_, zero-le}
+use mathlib.Core.Path.{_≡_, refl, sym, ap, _∙_, subst}
 use mathlib.Core.Bool.{true, false}
 use native.Mathlib.Omega.{arith}
 use lib.Dec.{T}
@@ -13,8 +13,8 @@ use mir.Val.{Fits, toZ, ofZ}
 use mir.ValLaws.{toZ-ofZ}
 use borrow.Author.Needs.{needs}
 use borrow.Author.Tests.{le-leb, lt-leb}
-use Rattle.exponent.specs.declared.block.Block.the-variants.{Zero, Invalid}
-use Rattle.exponent.specs.Plan.{shiftBlock, blockOf, entryAt}
+use Rattle.exponent.specs.declared.block.Block.the-variants.{Zero, Shift, Invalid}
+use Rattle.exponent.specs.Plan.{blockOf, entryAt}
 use Rattle.exponent.proofs.block.entry_at.Statement.{statement}
 use Rattle.exponent.proofs.block.entry_at.Tie as tie
 
@@ -24,7 +24,7 @@ never e = absurd (subst T e tt)
 -- what the tests of the sign of x say of the entry z
 record Signs (lift : ℕ) (z x : ℤ) : Type 0 where
   fits : leZ (pos 0) x ≡ true → T (nonNeg x) × Fits w64 (natAbs x)
-  shift : leZ (pos 0) x ≡ true → shiftBlock lift (natAbs x) ≡ blockOf lift z
+  shift : leZ (pos 0) x ≡ true → Shift (natAbs x % lift) ≡ blockOf lift z
   zeros : leZ (pos 0) x ≡ false → leZ (negsuc 0) x ≡ true → Zero ≡ blockOf lift z
   below : leZ (negsuc 0) x ≡ false → Invalid ≡ blockOf lift z
 
@@ -60,15 +60,15 @@ mul-e c = search needs
 shared-slice-copy-out-e : tie.Need-shared-slice-copy-out-e
 shared-slice-copy-out-e c = search needs
 
-cast-shift-block : tie.Need-cast-shift-block
-cast-shift-block c = read (c .before) .fits (c .if1 .taken)
+cast-remainder : tie.Need-cast-remainder
+cast-remainder c = read (c .before) .fits (c .if1 .taken)
 
-shift-block-requires : tie.Need-shift-block-requires
-shift-block-requires c κs = search needs
+remainder-requires : tie.Need-remainder-requires
+remainder-requires c κs = search needs
 
 returns : tie.Need-returns
 unfolding entryAt
-returns c = c .shift-block .ensures ∙ read (c .before .before) .shift (c .before .if1 .taken)
+returns c = ap Shift (c .remainder .ensures) ∙ read (c .before .before) .shift (c .before .if1 .taken)
 
 returns-2 : tie.Need-returns-2
 unfolding entryAt
@@ -84,8 +84,8 @@ entry-at-spec =
     (tie.spec
     mul-e
     shared-slice-copy-out-e
-    cast-shift-block
-    shift-block-requires
+    cast-remainder
+    remainder-requires
     returns
     returns-2
     returns-3)

@@ -61,7 +61,7 @@ mul-result c = omega (arith, inside c .1)
 turned-requires : tie.Need-turned-requires
 turned-requires c κs =
     let t = start c in
-    (t .pre .2, shift-on (t .args .plan .now) (t .args .s) (t .args .side) _ _ _ (shifted c), t .pre .0 .small-lift)
+    (t .pre .2, shift-on (t .args .plan .now) (t .args .s) (t .args .side) _ _ _ (t .pre .0 .some-lift) (shifted c), t .pre .0 .small-lift)
 
 add-result : tie.Need-add-result
 add-result c = omega (arith, small-turn c)

@@ -71,7 +71,7 @@ add-block-requires c κs =
     let t = c .before .before .before in
     let a = start t .args in
     let p = start t .pre .0 in (
-      λ e q. shift-low _ _ _ _ _ e (sym (c .block-at .ensures) ∙ q),
+      λ e q. shift-low _ _ _ _ _ e (p .formed .some-lift) (sym (c .block-at .ensures) ∙ q),
       mod-lt (a .c) (p .formed .some-lift),
       p .formed .small-lift,
       omega (arith, number-low _ (a .shape .lift - 1) _ (a .shape .lift) (c .before .if1 .left) (omega (arith, p .formed .some-lift)), p .whole, p .formed .some-lift),

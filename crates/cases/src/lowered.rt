@@ -1,0 +1,47 @@
+// A matrix with P lowered below its largest voltage, by a tenth and by a quarter of that, so that voltages stand at or above P.
+use crate::say::LARGEST;
+use crate::say::judged;
+use crate::say::number;
+use crate::say::say;
+use exponent::block;
+use exponent::block::Block;
+
+// No entry reaches this lift: it leaves all as they are.
+const ABOVE_ALL: usize = 32768;
+
+// The voltage of a block; 0 where there is none.
+fn voltage(b: Block) -> usize {
+    match b {
+        Block::Shift(e) => e,
+        Block::Zero => 0,
+        Block::Invalid => 0,
+    }
+}
+
+fn largest(plan: &[i16]) -> usize {
+    let mut most = 0;
+    let mut place = 0;
+    while place < plan.len() {
+        let e = voltage(block::entry_at(plan, ABOVE_ALL, place));
+        if most < e {
+            most = e;
+        }
+        place += 1;
+    }
+    most
+}
+
+// The verdict at the largest target, with P lowered.
+fn at(plan: &[i16], rows: usize, cols: usize, lift: usize) {
+    number(b" at P = ", lift);
+    say(b" ");
+    judged(plan, rows, cols, lift, LARGEST);
+}
+
+pub fn lowered(plan: &[i16], rows: usize, cols: usize) {
+    let most = largest(plan);
+    say(b";");
+    at(plan, rows, cols, most - most / 10);
+    say(b",");
+    at(plan, rows, cols, most - most / 4);
+}

@@ -1,0 +1,49 @@
+-- Slip 4: plans with the same empty blocks and equal remainders have the same refusals 1 to 6 and the same Tanner graph. Assumes nothing.
+use Prim.Native.Nat.{ℕ, zero, suc, _+_, _*_, _/_, _%_}
+use mathlib.Core.Path.{_≡_, refl, ap}
+use mathlib.Core.List.{List}
+use lib.IntN.{ℤ}
+use lib.ListN.{length}
+use Rattle.refusal.specs.Place.{firstPlace}
+use Rattle.exponent.specs.declared.block.Block.the-variants.{Shift}
+use Rattle.exponent.specs.Plan.{invalidEntry, entryAt, blockAt}
+use Rattle.exponent.specs.Limits.{planRules}
+use Rattle.exponent.specs.Tanner.{edge, tanner}
+use Rattle.exponent.specs.Remainders.{SameRemainders, none, empty, filled}
+
+module _ (lift : ℕ) where
+  same-length : {p q : List ℤ} → SameRemainders lift p q → length p ≡ length q
+  same-length none = refl
+  same-length (empty s) = ap suc (same-length s)
+  same-length (filled e f h s) = ap suc (same-length s)
+
+  same-first : {p q : List ℤ} → SameRemainders lift p q → firstPlace (invalidEntry lift) p ≡ firstPlace (invalidEntry lift) q
+  unfolding firstPlace
+  same-first none = refl
+  same-first (empty s) = ap suc (same-first s)
+  same-first (filled e f h s) = ap suc (same-first s)
+
+  -- the same block stands at every place
+  same-entry : {p q : List ℤ} → SameRemainders lift p q → (place : ℕ) → entryAt p lift place ≡ entryAt q lift place
+  unfolding entryAt
+  same-entry none place = refl
+  same-entry (empty s) zero = refl
+  same-entry (empty s) (suc place) = same-entry s place
+  same-entry (filled e f h s) zero = ap Shift h
+  same-entry (filled e f h s) (suc place) = same-entry s place
+
+  module _ {p q : List ℤ} (same : SameRemainders lift p q) (rows cols : ℕ) where
+    pub same-rules : planRules p rows cols lift ≡ planRules q rows cols lift
+    unfolding planRules
+    same-rules = rw (same-length same, same-first same)
+
+    -- every edge is in the same place
+    pub same-graph : tanner p rows cols lift ≡ tanner q rows cols lift
+    unfolding tanner blockAt
+    same-graph =
+        λ k.
+        record {
+          checks = rows * lift;
+          bits = cols * lift;
+          joins = λ c b. edge (same-entry same (c / lift * cols + b / lift) k) lift (c % lift) (b % lift);
+        }

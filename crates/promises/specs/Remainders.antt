@@ -1,0 +1,39 @@
+-- Document 02, slip 4: plans with the same empty blocks and equal remainders get the same girth, frames and text. It is said of every call that
+-- is given a plan, over the definitions that its contract equates answer and lent memory with.
+use Prim.Native.Nat.{ℕ}
+use mathlib.Core.Path.{_≡_}
+use mathlib.Core.Logic.{_↔_}
+use mathlib.Core.List.{List}
+use lib.IntN.{ℤ}
+use lib.ListN.{length}
+use Rattle.refusal.specs.Lowest.{lowest}
+use Rattle.graph.specs.Girth.{IsGirth}
+use Rattle.exponent.specs.Limits.{planRules, validity}
+use Rattle.exponent.specs.Tanner.{tanner}
+use Rattle.girth.specs.declared.GirthTest.{GirthTest}
+use Rattle.girth.specs.Test.{Answer}
+use Rattle.syndrome.specs.Check.{syndromeOf}
+use Rattle.peeling.specs.Fill.{fillAnswer, fillWord}
+use Rattle.alist.specs.Calls.{alistText, writeRules, written, laid, compareRules, comparison}
+
+-- what two plans of the same sizes have in common
+pub record SameAnswers (p q : List ℤ) (rows cols lift : ℕ) : Type 0 where
+  -- every edge is in the same place, and the plans are valid alike;
+  pub graph : tanner p rows cols lift ≡ tanner q rows cols lift
+  pub valid : validity (lowest (planRules p rows cols lift)) ≡ validity (lowest (planRules q rows cols lift))
+  -- the girth, and every answer that the girth test's contract allows;
+  pub girth : (n : ℕ) → IsGirth (tanner p rows cols lift) n ↔ IsGirth (tanner q rows cols lift) n
+  pub girth-test : (target : ℕ) (r : GirthTest) → Answer p rows cols lift target r ↔ Answer q rows cols lift target r
+  -- of every word the syndrome, the two numbers of its filling or the refusal, and what the word then holds;
+  pub syndrome : (word : List ℕ) → syndromeOf p rows cols lift word ≡ syndromeOf q rows cols lift word
+  pub filling : (word : List ℕ) → fillAnswer p rows cols lift word ≡ fillAnswer q rows cols lift word
+  pub filled-word : (word : List ℕ) → fillWord p rows cols lift word ≡ fillWord q rows cols lift word
+  -- the text, the answer of writing it and what the place then holds, and the comparison with any text
+  pub text : alistText p rows cols lift ≡ alistText q rows cols lift
+  pub writing : (place : List ℕ)
+      → written (length (alistText p rows cols lift)) (lowest (writeRules p rows cols lift place))
+      ≡ written (length (alistText q rows cols lift)) (lowest (writeRules q rows cols lift place))
+  pub written-place : (place : List ℕ)
+      → laid (lowest (writeRules p rows cols lift place)) (alistText p rows cols lift) place
+      ≡ laid (lowest (writeRules q rows cols lift place)) (alistText q rows cols lift) place
+  pub comparing : (text : List ℕ) → comparison (lowest (compareRules p rows cols lift text)) ≡ comparison (lowest (compareRules q rows cols lift text))
