@@ -85,8 +85,8 @@ pub fn diagonal() {
     build(true, 7, 7, &mut square, &mask, &mut plan);
 }
 
-// The same with the table's voltages as they are printed, up to 15: a plan that is built at 100 holds them so. At P = 7 it is
-// beside the plan of their remainders.
+// The same with the table's voltages as they are printed, up to 15: a plan that is built at 100 holds them so. It is judged at
+// P = 7, and its text compared with the plan of their remainders.
 pub fn printed() {
     let mut square = [0i16; 49];
     let mut plan = [0i16; 31752];

@@ -33,6 +33,11 @@ pub bit-4-joins : checksOf (tanner pair 1 2 3) 4 ≡ 0 ∷ []
 unfolding checksOf tanner select range blockAt entryAt
 bit-4-joins = refl
 
+-- at lift 2 its alist has the bits 1 4 and 2 3, counted from 1
+pub pair-bits : (bitsOf (tanner pair 1 2 2) 0 ≡ 0 ∷ 3 ∷ []) × (bitsOf (tanner pair 1 2 2) 1 ≡ 1 ∷ 2 ∷ [])
+unfolding bitsOf tanner select range blockAt entryAt
+pair-bits = (refl, refl)
+
 -- voltages as printed (document 02, slip 4): below the lift, at it, and the largest of all
 pub printed : (blockOf 5 (pos 4) ≡ Shift 4) × (blockOf 5 (pos 5) ≡ Shift 0) × (blockOf 5 (pos 32767) ≡ Shift 2) × (blockOf 4096 (pos 32767) ≡ Shift 4095)
 printed = (refl, refl, refl, refl)
@@ -51,11 +56,6 @@ other-by-3 (filled e f h s) = omega (arith, h)
 
 pub empty-and-filled : SameRemainders 3 (negsuc 0 ∷ []) (pos 0 ∷ []) → ⊥
 empty-and-filled = elim [ ]
-
--- at lift 2 its alist has the bits 1 4 and 2 3, counted from 1
-pub pair-bits : (bitsOf (tanner pair 1 2 2) 0 ≡ 0 ∷ 3 ∷ []) × (bitsOf (tanner pair 1 2 2) 1 ≡ 1 ∷ 2 ∷ [])
-unfolding bitsOf tanner select range blockAt entryAt
-pair-bits = (refl, refl)
 
 -- the 2 × 2 plan of zeros at lift 1 has a cycle of 4 edges
 pub zeros-cycle : SimpleCycle (tanner (pos 0 ∷ pos 0 ∷ pos 0 ∷ pos 0 ∷ []) 2 2 1) 2 (0 ∷ 1 ∷ []) (0 ∷ 1 ∷ [])

@@ -1,4 +1,4 @@
-//! The expanded graph: check (i, y) joins bit (j, (y + e) mod P) where the entry at (i, j) has a remainder e by P, being 0 or more.
+//! The expanded graph: check (i, y) joins bit (j, (y + e) mod P) where the entry at (i, j) is 0 or more, with the remainder e by P.
 use qcldpc::Plan;
 
 pub struct Graph {
