@@ -1,4 +1,4 @@
-/* Quasi-cyclic LDPC plans: the ten functions of libqcldpc.a (`rt staticlib qcldpc`), for C99 on x86-64. A program is linked
+/* Quasi-cyclic LDPC plans: the eleven functions of libqcldpc.a (`rt staticlib qcldpc`), for C99 on x86-64. A program is linked
  * with them by `-L target/staticlib -lqcldpc`.
  *
  * A plan is rows x cols numbers, row by row: -1 is a zero (empty) block, e from 0 to 32,767 the identity with its rows
@@ -51,6 +51,11 @@ uint64_t qcldpc_syndrome(const int16_t *plan, size_t plan_len, uint64_t rows, ui
  * out[0] erasures were filled, out[1] are left. */
 uint64_t qcldpc_fill(const int16_t *plan, size_t plan_len, uint64_t rows, uint64_t cols, uint64_t lift,
                      uint8_t *word, size_t word_len, uint64_t *out, size_t out_len);
+
+/* The preview of filling: reports what qcldpc_fill would report of a copy of the word, which is only read. Refusals 1 to 6,
+ * 16, 18, 20. out[0] erasures would be filled, out[1] left. */
+uint64_t qcldpc_preview(const int16_t *plan, size_t plan_len, uint64_t rows, uint64_t cols, uint64_t lift,
+                        const uint8_t *word, size_t word_len, uint64_t *out, size_t out_len);
 
 /* Counts the erasures of a word: out[0] is how many of its bytes are 2. Refuses nothing: a word of any length is counted, and
  * bytes above 2 are not. */

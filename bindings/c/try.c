@@ -1,4 +1,4 @@
-/* Calls each of the ten functions from C. Says which line is wrong, or "c: 10 functions answer". */
+/* Calls each of the eleven functions from C. Says which line is wrong, or "c: 11 functions answer". */
 #include "qcldpc.h"
 
 #include <stdio.h>
@@ -46,6 +46,16 @@ static void words(void)
     EXPECT(memcmp(lost, "\1\0\0\1", 4) == 0);
     EXPECT(qcldpc_fill(plan, 2, 1, 2, 2, clash, 4, out, QCLDPC_OUT) == 20);
     EXPECT(memcmp(clash, "\1\2\2\0", 4) == 0);
+}
+
+/* What filling would report, of words that stay as they are: one bit comes back, two are stuck, no values fit. */
+static void previews(void)
+{
+    const uint8_t lost[4] = {1, 0, 0, 2}, stuck[4] = {2, 0, 0, 2}, clash[4] = {1, 2, 2, 0};
+    EXPECT(qcldpc_preview(plan, 2, 1, 2, 2, lost, 4, out, QCLDPC_OUT) == 0 && out[0] == 1 && out[1] == 0);
+    EXPECT(qcldpc_preview(plan, 2, 1, 2, 2, stuck, 4, out, QCLDPC_OUT) == 0 && out[0] == 0 && out[1] == 2);
+    EXPECT(qcldpc_preview(plan, 2, 1, 2, 2, clash, 4, out, QCLDPC_OUT) == 20);
+    EXPECT(qcldpc_preview(plan, 2, 1, 2, 2, lost, 3, out, QCLDPC_OUT) == 16);
 }
 
 static void erasures(void)
@@ -119,12 +129,13 @@ int main(void)
 {
     plans();
     words();
+    previews();
     erasures();
     tables();
     texts();
     unpadded_texts();
     too_small_an_out();
     if (!wrong)
-        puts("c: 10 functions answer");
+        puts("c: 11 functions answer");
     return wrong;
 }

@@ -1,7 +1,8 @@
 //! Times the proved decoder on the 1,764-bit plan of source 004's example 2 (cyclic table of order 7, lift 7, mask 0 on the
 //! diagonal) with 13 and with 400 erasures, beside a plain Rust worklist decoder. The call gets the plan as numbers for each
 //! word, judges it and builds its index; so there are two references: one that does the same for each word, and one that
-//! prepares the plan once. All run with the voltages below the lift, and with the same plan's voltages above it.
+//! prepares the plan once. All run with the voltages below the lift, and with the same plan's voltages above it. The preview is
+//! timed beside the decoder itself.
 mod common;
 
 use common::{cyclic_plan, judge, printed, shift, timed, OwnedPlan};
@@ -136,7 +137,12 @@ fn decode_all(best: &mut Duration, words: &[Vec<u8>], decode: impl Fn(&mut [u8])
     timed(best, || copies.iter_mut().for_each(|word| assert!(black_box(decode(black_box(word))).is_ok())));
 }
 
-// All three in turn on the same words, best of 7 each.
+// Previews each word.
+fn preview_all(best: &mut Duration, words: &[Vec<u8>], plan: &OwnedPlan) {
+    timed(best, || words.iter().for_each(|word| assert!(black_box(qcldpc::preview(&plan.lent(), black_box(word))).is_ok())));
+}
+
+// All four in turn on the same words, best of 7 each.
 fn beside(name: &str, plan: &OwnedPlan, words: &[Vec<u8>]) {
     let once = lists(plan);
     let proved = |word: &mut [u8]| qcldpc::fill(&plan.lent(), word).map_err(|refusal| refusal.number);
@@ -145,21 +151,24 @@ fn beside(name: &str, plan: &OwnedPlan, words: &[Vec<u8>]) {
     for word in words {
         let (mut a, mut b, mut c) = (word.clone(), word.clone(), word.clone());
         let answer = proved(&mut a);
+        assert_eq!(answer, qcldpc::preview(&plan.lent(), word).map_err(|refusal| refusal.number));
         assert_eq!(answer, same_work(&mut b));
         assert_eq!(answer, prepared(&mut c));
         assert!(a == b && a == c);
     }
-    let (mut ours, mut same, mut once) = (Duration::MAX, Duration::MAX, Duration::MAX);
+    let [mut ours, mut preview, mut same, mut once] = [Duration::MAX; 4];
     for _ in 0..7 {
         decode_all(&mut ours, words, proved);
+        preview_all(&mut preview, words, plan);
         decode_all(&mut same, words, same_work);
         decode_all(&mut once, words, prepared);
     }
     let rate = |d: Duration| words.len() as f64 / d.as_secs_f64();
+    let ratio = |d: Duration, to: Duration| d.as_secs_f64() / to.as_secs_f64();
     println!("{name}: qcldpc_fill {:.0} words a second", rate(ours));
+    println!("  qcldpc_preview {:.0} words a second, ratio to qcldpc_fill {:.3}", rate(preview), ratio(preview, ours));
     for (name, theirs) in [("same work for each word", same), ("plan prepared once", once)] {
-        let ratio = ours.as_secs_f64() / theirs.as_secs_f64();
-        println!("  reference, {name}, {:.0} words a second, ratio {ratio:.2}", rate(theirs));
+        println!("  reference, {name}, {:.0} words a second, ratio {:.2}", rate(theirs), ratio(ours, theirs));
     }
 }
 

@@ -8,13 +8,14 @@
 //! each of its columns has three filled blocks, so any three lost bits of a codeword come back:
 //!
 //! ```
-//! use qcldpc::{fill, girth, syndrome, Fill, Girth, Plan, Refusal, Syndrome};
+//! use qcldpc::{fill, girth, preview, syndrome, Fill, Girth, Plan, Refusal, Syndrome};
 //!
 //! let plan = Plan { entries: &[0, 0, 0, 0, 1, 2, 0, 2, 1], rows: 3, cols: 3, lift: 3 };
 //! assert_eq!(girth(&plan, 6), Ok(Girth::Passed));
 //! assert_eq!(girth(&plan, 12).unwrap().girth(), Some(6));
 //!
 //! let mut word = [2, 1, 1, 2, 0, 0, 1, 1, 2];
+//! assert_eq!(preview(&plan, &word), Ok(Fill { filled: 3, left: 0 }));
 //! assert_eq!(fill(&plan, &mut word), Ok(Fill { filled: 3, left: 0 }));
 //! assert_eq!(word, [1, 1, 1, 0, 0, 0, 1, 1, 1]);
 //! assert_eq!(syndrome(&plan, &word), Ok(Syndrome::Even));
@@ -121,7 +122,7 @@ pub enum Syndrome {
     Odd(usize),
 }
 
-/// How many erasures the decoder filled, and how many it left: those in the largest stopping set.
+/// How many erasures the decoder filled, or would fill, and how many it leaves: those in the largest stopping set.
 #[derive(Clone, Copy, Debug, PartialEq, Eq)]
 pub struct Fill {
     pub filled: usize,
@@ -179,10 +180,26 @@ pub fn syndrome(plan: &Plan, word: &[u8]) -> Result<Syndrome, Refusal> {
 /// Fills every erasure outside the largest stopping set, in place. Refusals 1 to 6, 16, 18, 20.
 pub fn fill(plan: &Plan, word: &mut [u8]) -> Result<Fill, Refusal> {
     let (p, n, rows, cols, lift) = plan.lent();
-    call(
-        |out, len| unsafe { raw::qcldpc_fill(p, n, rows, cols, lift, word.as_mut_ptr(), word.len(), out, len) },
-        |out| Fill { filled: out[0] as usize, left: out[1] as usize },
-    )
+    call(|out, len| unsafe { raw::qcldpc_fill(p, n, rows, cols, lift, word.as_mut_ptr(), word.len(), out, len) }, counts)
+}
+
+/// What [`fill`] would report of a copy of the word, which is only read: for every word the same counts, or the same refusal.
+/// Refusals 1 to 6, 16, 18, 20.
+///
+/// The plan here has two checks, one of bits 0 and 3 and one of bits 1 and 2:
+///
+/// ```
+/// use qcldpc::{fill, preview, Fill, Plan, Refusal};
+///
+/// let plan = Plan { entries: &[0, 1], rows: 1, cols: 2, lift: 2 };
+/// let mut scan = [1, 2, 2, 2];
+/// assert_eq!(preview(&plan, &scan), Ok(Fill { filled: 1, left: 2 }));
+/// assert_eq!(fill(&plan, &mut scan), Ok(Fill { filled: 1, left: 2 }));
+/// assert_eq!(preview(&plan, &[1, 2, 2, 0]), Err(Refusal { number: 20, values: vec![] }));
+/// ```
+pub fn preview(plan: &Plan, word: &[u8]) -> Result<Fill, Refusal> {
+    let (p, n, rows, cols, lift) = plan.lent();
+    call(|out, len| unsafe { raw::qcldpc_preview(p, n, rows, cols, lift, word.as_ptr(), word.len(), out, len) }, counts)
 }
 
 /// How many bytes of a word are 2: its erasures. Nothing is refused: a word of any length is counted, and bytes above 2 are not.
@@ -277,6 +294,11 @@ fn value_count(number: u64) -> usize {
         10 => 4,
         _ => 0,
     }
+}
+
+// The two counts of the decoder and of the preview.
+fn counts(out: &[u64]) -> Fill {
+    Fill { filled: out[0] as usize, left: out[1] as usize }
 }
 
 fn usizes(numbers: &[u64]) -> Vec<usize> {

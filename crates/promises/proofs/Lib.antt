@@ -12,3 +12,4 @@ pub mod Table
 pub mod Cases
 pub mod Counts
 pub mod Remainders
+pub mod Preview

@@ -107,6 +107,8 @@ promise-1 =
         answered _ _ _ (fill-rules.rules-rise plan rows cols lift word) (fill-matches plan rows cols lift word) (filled plan rows cols lift word),
         word-kept plan rows cols lift word,
       );
+      preview = λ plan rows cols lift word a e.
+          answered _ _ _ (fill-rules.rules-rise plan rows cols lift word) (fill-matches plan rows cols lift word) (ap ofFilling e ∙ filled plan rows cols lift word);
       supply = λ family order table. (
         answered _ _ _ (table-rules.supply-rules-rise order (length table)) (supply-matches order (length table)) (in-supplied _),
         kept (λ o. lent o (suppliedTable family order) table) table (λ r. refl) _ _ (in-supplied (lowest (supplyRules order (length table)))),

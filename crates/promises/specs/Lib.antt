@@ -7,3 +7,4 @@ pub mod Cases
 pub mod Texts
 pub mod Counts
 pub mod Remainders
+pub mod Preview

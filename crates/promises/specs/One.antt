@@ -21,7 +21,7 @@ use Rattle.syndrome.specs.declared.Syndrome.the-variants as syndrome
 use Rattle.syndrome.specs.Check.{syndromeOf}
 use Rattle.peeling.specs.declared.Filling.{Filling}
 use Rattle.peeling.specs.declared.Filling.the-variants as filling
-use Rattle.peeling.specs.Fill.{fillAnswer, fillWord}
+use Rattle.peeling.specs.Fill.{fillAnswer, fillWord, Previews}
 use Rattle.square.specs.declared.supply.Family.{Family}
 use Rattle.square.specs.Table.{suppliedTable}
 use Rattle.square.specs.Mask.{weight}
@@ -91,6 +91,9 @@ pub record Promise-1 : Type 0 where
       → let answer = ofFilling (fillAnswer plan rows cols lift word) in
       LowestOf (PlanRow plan rows cols lift or WordRow (cols * lift) word or SolutionRow (tanner plan rows cols lift) word) answer
       × Unchanged answer word (fillWord plan rows cols lift word)
+  -- 1 to 6, 16, 18, 20 (document 02, slip 5)
+  pub preview : (plan : List ℤ) (rows cols lift : ℕ) (word : List ℕ) (answer : Filling) → Previews plan rows cols lift word answer
+      → LowestOf (PlanRow plan rows cols lift or WordRow (cols * lift) word or SolutionRow (tanner plan rows cols lift) word) (ofFilling answer)
   -- 7, 8; the calls `array` and `cyclic`
   pub supply : (family : Family) (order : ℕ) (table : List ℤ)
       → let refusal = lowest (supplyRules order (length table)) in

@@ -24,7 +24,7 @@ pub record SameAnswers (p q : List ℤ) (rows cols lift : ℕ) : Type 0 where
   -- the girth, and every answer that the girth test's contract allows;
   pub girth : (n : ℕ) → IsGirth (tanner p rows cols lift) n ↔ IsGirth (tanner q rows cols lift) n
   pub girth-test : (target : ℕ) (r : GirthTest) → Answer p rows cols lift target r ↔ Answer q rows cols lift target r
-  -- of every word the syndrome, the two numbers of its filling or the refusal, and what the word then holds;
+  -- of every word the syndrome, the two numbers of its filling, and so of its preview, or the refusal, and what the word then holds;
   pub syndrome : (word : List ℕ) → syndromeOf p rows cols lift word ≡ syndromeOf q rows cols lift word
   pub filling : (word : List ℕ) → fillAnswer p rows cols lift word ≡ fillAnswer q rows cols lift word
   pub filled-word : (word : List ℕ) → fillWord p rows cols lift word ≡ fillWord q rows cols lift word

@@ -12,7 +12,7 @@ ghost use Rattle.girth.specs.Test.{Answer};
 ghost use Rattle.syndrome.specs.declared.Syndrome.{Syndrome};
 ghost use Rattle.syndrome.specs.Check.{syndromeOf};
 ghost use Rattle.peeling.specs.declared.Filling.{Filling};
-ghost use Rattle.peeling.specs.Fill.{fillAnswer, fillWord};
+ghost use Rattle.peeling.specs.Fill.{fillAnswer, fillWord, Previews};
 ghost use Rattle.square.specs.declared.supply.Family.the-variants.{Array, Cyclic};
 ghost use Rattle.square.specs.Table.{suppliedTable};
 ghost use Rattle.square.specs.Mask.{weight};
@@ -96,6 +96,26 @@ pub extern "C" fn qcldpc_fill(
         return NO_ROOM;
     }
     let a = peeling::fill(plan, rows as usize, cols as usize, lift as usize, word);
+    let r = reply::filled(a);
+    reply::give(r, out)
+}
+
+// The preview: what the decoder would put into `out`, with the word only read.
+#[no_mangle]
+pub extern "C" fn qcldpc_preview(
+    plan: &[i16],
+    rows: u64,
+    cols: u64,
+    lift: u64,
+    word: &[u8],
+    out: &mut [u64],
+) -> u64
+    ensures { λ r. ⌜ Replies Filling (Previews (now (plan .entry)) rows cols lift (now (word .entry))) (gives fillReply) (now (out .entry)) r (now (out .exit)) ⌝ }
+{
+    if out.len() < PLACES {
+        return NO_ROOM;
+    }
+    let a = peeling::preview(plan, rows as usize, cols as usize, lift as usize, word);
     let r = reply::filled(a);
     reply::give(r, out)
 }

@@ -1,4 +1,4 @@
-//! The syndrome check, the decoder and the count of erasures on the largest words.
+//! The syndrome check, the decoder, its preview and the count of erasures on the largest words.
 use super::plans::{chain, full, largest, turned_away};
 use super::{expect, refusal, tables, Call};
 use qcldpc::{Fill, OwnedPlan, Refusal, Syndrome};
@@ -20,15 +20,26 @@ fn checked(plan: OwnedPlan, word: Vec<u8>, wanted: Result<Syndrome, Refusal>) ->
     expect(move || qcldpc::syndrome(&plan.lent(), &word), wanted)
 }
 
-// The decoder's answer, and whether it leaves the word as it should.
-fn filled(plan: OwnedPlan, mut word: Vec<u8>, wanted: Result<Fill, Refusal>, after: Vec<u8>) -> Call {
-    expect(move || (qcldpc::fill(&plan.lent(), &mut word), word == after), (wanted, true))
+// A plan and a word, what filling that answers, and the word as it is then.
+struct Case {
+    plan: OwnedPlan,
+    word: Vec<u8>,
+    wanted: Result<Fill, Refusal>,
+    after: Vec<u8>,
 }
 
 // A word that the decoder refuses or leaves as it is.
-fn kept(plan: OwnedPlan, word: Vec<u8>, wanted: Result<Fill, Refusal>) -> Call {
-    let after = word.clone();
-    filled(plan, word, wanted, after)
+fn kept(plan: OwnedPlan, word: Vec<u8>, wanted: Result<Fill, Refusal>) -> Case {
+    Case { plan, after: word.clone(), word, wanted }
+}
+
+// The decoder's answer, and whether it leaves the word as it should.
+fn filled(Case { plan, mut word, wanted, after }: Case) -> Call {
+    expect(move || (qcldpc::fill(&plan.lent(), &mut word), word == after), (wanted, true))
+}
+
+fn previewed(Case { plan, word, wanted, .. }: Case) -> Call {
+    expect(move || qcldpc::preview(&plan.lent(), &word), wanted)
 }
 
 pub fn syndrome() -> Vec<Call> {
@@ -53,29 +64,52 @@ pub fn syndrome_refused() -> Vec<Call> {
     calls
 }
 
-pub fn fill() -> Vec<Call> {
+fn largest_cases() -> Vec<Case> {
     let (wide, tall, table) = (chain(192, 512, 128), chain(192, 16, 4096), tables::largest_plan());
+    let chained = |plan: &OwnedPlan, filled, left, after| {
+        let (word, wanted) = (word(plan, 0, 1, 2), Ok(Fill { filled, left }));
+        Case { plan: plan.clone(), word, wanted, after }
+    };
     let (few, zeros) = ((0..table.bits()).map(|b| if b % 5000 == 0 { 2 } else { 0 }).collect(), vec![0; table.bits()]);
     let lost = vec![2; table.bits()];
     vec![
-        filled(wide.clone(), word(&wide, 0, 1, 2), Ok(Fill { filled: 192 * 128, left: 319 * 128 }), word(&wide, 192, 1, 2)),
-        filled(tall.clone(), word(&tall, 0, 1, 2), Ok(Fill { filled: 15 * 4096, left: 0 }), vec![1; BITS]),
-        filled(table.clone(), few, Ok(Fill { filled: 14, left: 0 }), zeros),
+        chained(&wide, 192 * 128, 319 * 128, word(&wide, 192, 1, 2)),
+        chained(&tall, 15 * 4096, 0, vec![1; BITS]),
+        Case { plan: table.clone(), word: few, wanted: Ok(Fill { filled: 14, left: 0 }), after: zeros },
         kept(table.clone(), lost, Ok(Fill { filled: 0, left: table.bits() })),
         kept(full(128), vec![2; BITS], Ok(Fill { filled: 0, left: BITS })),
     ]
 }
 
-pub fn fill_refused() -> Vec<Call> {
-    let mut calls = turned_away(|plan| qcldpc::fill(&plan.lent(), &mut vec![2; BITS]));
+fn refused_cases() -> Vec<Case> {
     let tall = chain(192, 16, 4096);
     let clash = with(word(&tall, 0, 1, 2), BITS - 1, 0);
     let wrong = [
         (vec![2; BITS + 1], refusal(16, &[])),
+        (vec![2; 16 * BITS], refusal(16, &[])),
         (with(vec![2; BITS], BITS - 1, 3), refusal(18, &[BITS as u64 - 1])),
         (clash, refusal(20, &[])),
     ];
-    calls.extend(wrong.map(|(word, wanted)| kept(tall.clone(), word, Err(wanted))));
+    wrong.map(|(word, wanted)| kept(tall.clone(), word, Err(wanted))).into()
+}
+
+pub fn fill() -> Vec<Call> {
+    largest_cases().into_iter().map(filled).collect()
+}
+
+pub fn fill_refused() -> Vec<Call> {
+    let mut calls = turned_away(|plan| qcldpc::fill(&plan.lent(), &mut vec![2; BITS]));
+    calls.extend(refused_cases().into_iter().map(filled));
+    calls
+}
+
+pub fn preview() -> Vec<Call> {
+    largest_cases().into_iter().map(previewed).collect()
+}
+
+pub fn preview_refused() -> Vec<Call> {
+    let mut calls = turned_away(|plan| qcldpc::preview(&plan.lent(), &vec![2; BITS]));
+    calls.extend(refused_cases().into_iter().map(previewed));
     calls
 }
 

@@ -1,4 +1,4 @@
-//! The decoder.
+//! The decoder and its preview.
 use crate::door::{agree, left, lend_bytes, lend_numbers, no_room, reply, with_room, Short};
 use crate::inputs::{any_plan, column_plan, every_entry, limit_plans, small_plan, OwnedPlan};
 use crate::random::Random;
@@ -8,8 +8,27 @@ use crate::reference::graph::graph;
 use crate::seen::Seen;
 use crate::tables::built_plans;
 use crate::words::{code, code_word, damage, lose, some_word};
-use qcldpc::raw::qcldpc_fill;
-use qcldpc::{Fill, Plan};
+use qcldpc::raw::{qcldpc_fill, qcldpc_preview};
+use qcldpc::{Fill, Plan, Refusal};
+
+// What goes into `out` of both calls.
+fn counts(answer: &Result<Fill, Refusal>) -> (u64, Vec<u64>) {
+    reply(&answer.clone().map(|fill| vec![fill.filled, fill.left]))
+}
+
+// The preview gives the decoder's answer, and the word stays as it was lent.
+fn compare_preview(plan: &Plan, word: &[u8], answer: &Result<Fill, Refusal>) {
+    let input = &(Short(plan), word);
+    let (rows, cols, lift) = (plan.rows as u64, plan.cols as u64, plan.lift as u64);
+    let (mut p, mut w) = (lend_numbers(plan.entries), lend_bytes(word));
+    let mut call =
+        |out, places| unsafe { qcldpc_preview(p.pointer(), p.len(), rows, cols, lift, w.pointer(), w.len(), out, places) };
+    no_room(&mut call);
+    agree(input, with_room(&mut call), counts(answer));
+    left(input, &p, plan.entries);
+    left(input, &w, word);
+    agree(input, &qcldpc::preview(plan, word), answer);
+}
 
 /// Gives the answer, where it is no refusal.
 pub fn compare(plan: &Plan, word: &[u8], seen: &mut Seen) -> Option<Fill> {
@@ -22,12 +41,13 @@ pub fn compare(plan: &Plan, word: &[u8], seen: &mut Seen) -> Option<Fill> {
     no_room(|out, places| call(w.pointer(), out, places));
     left(input, &w, word);
     let got = with_room(|out, places| call(w.pointer(), out, places));
-    agree(input, got, reply(&answer.clone().map(|fill| vec![fill.filled, fill.left])));
+    agree(input, got, counts(&answer));
     left(input, &w, &after);
     left(input, &p, plan.entries);
     let mut copy = word.to_vec();
     agree(input, &qcldpc::fill(plan, &mut copy), &answer);
     agree(input, &copy, &after);
+    compare_preview(plan, word, &answer);
     seen.note_on(plan, &answer);
     answer.ok()
 }
@@ -61,6 +81,8 @@ fn compare_large(random: &Random, plan: &OwnedPlan, seen: &mut Seen) {
         random.distinct(n.min(bits).min(1000), bits).into_iter().for_each(|b| word[b] = 2);
         compare(&plan.lent(), &word, seen);
         turn_known(random, &mut word);
+        compare(&plan.lent(), &word, seen);
+        damage(random, &mut word);
         compare(&plan.lent(), &word, seen);
     }
 }

@@ -48,8 +48,8 @@ fn syndrome_check() {
 }
 
 #[test]
-fn decoder() {
-    println!("decoder: {}", *FILL);
+fn decoder_and_preview() {
+    println!("decoder and preview: {}", *FILL);
 }
 
 #[test]
