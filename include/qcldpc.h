@@ -52,8 +52,8 @@ uint64_t qcldpc_syndrome(const int16_t *plan, size_t plan_len, uint64_t rows, ui
 uint64_t qcldpc_fill(const int16_t *plan, size_t plan_len, uint64_t rows, uint64_t cols, uint64_t lift,
                      uint8_t *word, size_t word_len, uint64_t *out, size_t out_len);
 
-/* The preview of filling: reports what qcldpc_fill would report of a copy of the word, which is only read. Refusals 1 to 6,
- * 16, 18, 20. out[0] erasures would be filled, out[1] left. */
+/* The preview of filling: for every word what qcldpc_fill would answer for a copy of it; the word itself is only read.
+ * Refusals 1 to 6, 16, 18, 20. out[0] erasures would be filled, out[1] left. */
 uint64_t qcldpc_preview(const int16_t *plan, size_t plan_len, uint64_t rows, uint64_t cols, uint64_t lift,
                         const uint8_t *word, size_t word_len, uint64_t *out, size_t out_len);
 

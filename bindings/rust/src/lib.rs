@@ -183,8 +183,8 @@ pub fn fill(plan: &Plan, word: &mut [u8]) -> Result<Fill, Refusal> {
     call(|out, len| unsafe { raw::qcldpc_fill(p, n, rows, cols, lift, word.as_mut_ptr(), word.len(), out, len) }, counts)
 }
 
-/// What [`fill`] would report of a copy of the word, which is only read: for every word the same counts, or the same refusal.
-/// Refusals 1 to 6, 16, 18, 20.
+/// What [`fill`] would answer for a copy of the word, for every word: the same counts, or the same refusal. The word itself is
+/// only read. Refusals 1 to 6, 16, 18, 20.
 ///
 /// The plan here has two checks, one of bits 0 and 3 and one of bits 1 and 2:
 ///

@@ -50,6 +50,8 @@ fn syndrome_check() {
 #[test]
 fn decoder_and_preview() {
     println!("decoder and preview: {}", *FILL);
+    let met: Vec<usize> = (1..22).filter(|&n| FILL.refusals(n) > 0).collect();
+    assert_eq!(met, [1, 2, 3, 4, 5, 6, 16, 18, 20]);
 }
 
 #[test]
