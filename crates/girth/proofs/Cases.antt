@@ -14,7 +14,9 @@ use Rattle.graph.proofs.Cases.{cycle-if}
 use Rattle.exponent.specs.Limits.{planRules}
 use Rattle.exponent.specs.Plan.{shifts, entryAt, blockAt}
 use Rattle.exponent.specs.Tanner.{tanner}
-use Rattle.walks.specs.Search.{firstOf, atCheck, closedWalk, trail}
+use Rattle.walks.specs.Ways.{each, fromBit, ways}
+use Rattle.walks.specs.Meeting.{repeat, backAlong, meeting, firstOf, shortCycle}
+use Rattle.walks.specs.Trail.{lay}
 use Rattle.girth.specs.declared.GirthTest.{GirthTest}
 use Rattle.girth.specs.declared.Outcome.the-variants.{Passed, Failed, Refused}
 use Rattle.girth.specs.Test.{allowed, testRules, without-witness, Answer, refused, passed, failed}
@@ -42,15 +44,15 @@ two-lengths = 0 ∷ 0 ∷ 0 ∷ 0 ∷ 1 ∷ 1 ∷ []
 -- cycles of two lengths
 abbrev pub cases : List Case
 cases =
-    case (0 ∷ 0 ∷ 0 ∷ 0 ∷ []) 2 2 1 6 (shows 2 (0 ∷ 1 ∷ 0 ∷ 0 ∷ 0 ∷ []) (1 ∷ 0 ∷ 0 ∷ 0 ∷ 0 ∷ []))
+    case (0 ∷ 0 ∷ 0 ∷ 0 ∷ []) 2 2 1 6 (shows 2 (1 ∷ 0 ∷ 0 ∷ 0 ∷ 0 ∷ []) (0 ∷ 1 ∷ 0 ∷ 0 ∷ 0 ∷ []))
     ∷ case (0 ∷ 0 ∷ 0 ∷ 1 ∷ []) 2 2 2 8 (without-witness Passed)
-    ∷ case (0 ∷ 0 ∷ 0 ∷ 1 ∷ []) 2 2 2 10 (shows 4 (0 ∷ 3 ∷ 1 ∷ 2 ∷ 0 ∷ []) (2 ∷ 1 ∷ 3 ∷ 0 ∷ 0 ∷ []))
+    ∷ case (0 ∷ 0 ∷ 0 ∷ 1 ∷ []) 2 2 2 10 (shows 4 (1 ∷ 2 ∷ 0 ∷ 3 ∷ 0 ∷ []) (3 ∷ 0 ∷ 2 ∷ 1 ∷ 0 ∷ []))
     ∷ case (0 ∷ 0 ∷ 0 ∷ 1 ∷ []) 2 2 3 12 (without-witness Passed)
-    ∷ case (0 ∷ 0 ∷ 0 ∷ 2 ∷ []) 2 2 4 10 (shows 4 (0 ∷ 6 ∷ 2 ∷ 4 ∷ 0 ∷ []) (4 ∷ 2 ∷ 6 ∷ 0 ∷ 0 ∷ []))
-    ∷ case (0 ∷ 0 ∷ 0 ∷ 0 ∷ 0 ∷ 0 ∷ 1 ∷ 1 ∷ 0 ∷ 1 ∷ 0 ∷ 1 ∷ []) 3 4 2 6 (shows 2 (0 ∷ 2 ∷ 0 ∷ 0 ∷ 0 ∷ []) (2 ∷ 0 ∷ 0 ∷ 0 ∷ 0 ∷ []))
+    ∷ case (0 ∷ 0 ∷ 0 ∷ 2 ∷ []) 2 2 4 10 (shows 4 (2 ∷ 4 ∷ 0 ∷ 6 ∷ 0 ∷ []) (6 ∷ 0 ∷ 4 ∷ 2 ∷ 0 ∷ []))
+    ∷ case (0 ∷ 0 ∷ 0 ∷ 0 ∷ 0 ∷ 0 ∷ 1 ∷ 1 ∷ 0 ∷ 1 ∷ 0 ∷ 1 ∷ []) 3 4 2 6 (shows 2 (2 ∷ 0 ∷ 0 ∷ 0 ∷ 0 ∷ []) (0 ∷ 2 ∷ 0 ∷ 0 ∷ 0 ∷ []))
     ∷ case (0 ∷ 0 ∷ 0 ∷ []) 1 3 4096 12 (without-witness Passed)
     ∷ case (0 ∷ []) 1 1 4097 12 (without-witness (Refused Lift))
-    ∷ case two-lengths 2 3 2 10 (shows 2 (0 ∷ 3 ∷ 0 ∷ 0 ∷ 0 ∷ []) (4 ∷ 2 ∷ 0 ∷ 0 ∷ 0 ∷ []))
+    ∷ case two-lengths 2 3 2 10 (shows 2 (3 ∷ 0 ∷ 0 ∷ 0 ∷ 0 ∷ []) (2 ∷ 4 ∷ 0 ∷ 0 ∷ 0 ∷ []))
     ∷ []
 
 abbrev pub Computed : List Case → Type 0
@@ -58,7 +60,7 @@ Computed [] = Unit {0}
 Computed (c ∷ l) = (model (c .plan) (c .rows) (c .cols) (c .lift) (c .target) ≡ c .answer) × Computed l
 
 pub computed : Computed cases
-unfolding model lowest testRules planRules firstPlace allowed member entryAt blockAt shortest closedWalk firstOf atCheck trail
+unfolding model lowest testRules planRules firstPlace allowed member entryAt blockAt shortest shortCycle firstOf meeting repeat ways fromBit each backAlong lay
 computed = (refl, (refl, (refl, (refl, (refl, (refl, (refl, (refl, (refl, tt)))))))))
 
 -- of the plan with two lengths every answer that the contract allows, however it was found, shows a cycle of 4 edges

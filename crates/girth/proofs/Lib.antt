@@ -1,6 +1,6 @@
 pub mod Cases
 pub mod Verdict
 pub mod Fewest
-pub mod Skips
 pub mod Rules
 pub mod Model
+pub mod Calls

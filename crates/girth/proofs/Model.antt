@@ -6,7 +6,7 @@ use mathlib.Core.Option.{Option, none, some}
 use lib.IntN.{ℤ}
 use Rattle.refusal.specs.declared.Refusal.{Refusal}
 use Rattle.refusal.specs.Lowest.{lowest}
-use Rattle.walks.specs.Search.{blocksOf}
+use Rattle.walks.specs.Steps.{blocksOf}
 use Rattle.girth.specs.Test.{testRules, Answer, refused}
 use Rattle.girth.specs.Model.{shortest, onRefusal, model}
 use Rattle.girth.proofs.Verdict.{model-answers}

@@ -8,8 +8,9 @@ use lib.IntN.{ℤ}
 use Rattle.refusal.specs.declared.Refusal.{Refusal}
 use Rattle.refusal.specs.declared.Refusal.the-variants.{Target}
 use Rattle.refusal.specs.Lowest.{lowest, rising}
-use Rattle.refusal.proofs.Lowest.{lowest-here, lowest-next, lowest-accepted, lowest-refused}
-use Rattle.exponent.specs.Limits.{planRules}
+use Rattle.refusal.proofs.Lowest.{lowest-here, lowest-next, lowest-accepted, lowest-refused, none-append}
+use Rattle.exponent.specs.Limits.{planRules, WellFormed}
+use Rattle.exponent.proofs.Rules.{accepted}
 use Rattle.girth.specs.Test.{allowed, testRules}
 
 -- computed, whatever the plan and the target are
@@ -29,3 +30,8 @@ module _ (plan : List ℤ) (rows cols lift target : ℕ) where
   pub not-refused : lowest (planRules plan rows cols lift) ≡ none → allowed target ≡ true → lowest (testRules plan rows cols lift target) ≡ none
   unfolding testRules lowest
   not-refused e h = lowest-accepted (planRules plan rows cols lift) _ e ∙ lowest-next (not (allowed target)) Target [] (ap not h)
+
+  -- where nothing applies, the plan is well formed
+  pub formed : lowest (testRules plan rows cols lift target) ≡ none → WellFormed plan rows cols lift
+  unfolding testRules
+  formed e = accepted plan rows cols lift .0 (none-append (planRules plan rows cols lift) _ .0 e .0)

@@ -16,55 +16,45 @@ use Rattle.graph.specs.Count.{Mem}
 use Rattle.graph.specs.Graph.{Bipartite}
 use Rattle.graph.specs.Girth.{SimpleCycle, Passes}
 use Rattle.graph.proofs.Count.{member-mem}
-use Rattle.graph.proofs.Decide.{by-eq, by-le}
 use Rattle.exponent.specs.declared.Shape.{Shape}
 use Rattle.exponent.specs.Limits.{planRules}
 use Rattle.exponent.specs.Tanner.{graphOf}
 use Rattle.exponent.proofs.Rules.{inside}
-use Rattle.walks.specs.Search.{Blocks, blocksOf, Joint, Result, closedWalk, trail}
-use Rattle.walks.proofs.Simple.{checksIn, bitsIn, met-cycle, found-cycle}
+use Rattle.walks.specs.Steps.{blocksOf}
+use Rattle.walks.specs.Ways.{Joint, Way}
+use Rattle.walks.specs.Meeting.{Result, shortCycle}
+use Rattle.walks.specs.Trail.{places, lay, trail}
+use Rattle.walks.proofs.Nodes.{checksIn, bitsIn}
+use Rattle.walks.proofs.Found.{found-cycle}
+use Rattle.walks.proofs.Missed.{passes-on}
 use Rattle.girth.specs.declared.GirthTest.{GirthTest}
 use Rattle.girth.specs.declared.Outcome.the-variants.{Passed}
-use Rattle.girth.specs.Test.{targets, allowed, testRules, places, without-witness, Answer, passed, failed}
+use Rattle.girth.specs.Test.{targets, allowed, testRules, without-witness, Answer, passed, failed}
 use Rattle.girth.specs.Model.{witness, unlessFound, shortest}
 
 -- what the search says of a graph, in rounds of fewer than t checks
 pub data Verdict (G : Bipartite) (t : ℕ) : GirthTest → Type 0 where
   passes : Passes G (2 * t) → Verdict G t (without-witness Passed)
-  shows : (n : ℕ) (l : List Joint) → n < t → length l ≡ n → SimpleCycle G n (checksIn l) (bitsIn l) → Passes G (2 * n) → Verdict G t (witness n (trail l))
+  shows : (n : ℕ) (w : Way) → n < t → length (w .joints) ≡ n → SimpleCycle G n (checksIn (w .joints)) (bitsIn (w .joints)) → Passes G (2 * n) → Verdict G t (witness n (trail w))
 
--- no round before n finds anything
-abbrev NoneBefore : Blocks → ℕ → Type 0
-NoneBefore B n = (m : ℕ) → 2 ≤ m → m < n → closedWalk B m ≡ none
+-- a simple cycle has two checks at least
+pub passes-first : (G : Bipartite) → Passes G (2 * 2)
+unfolding Passes
+passes-first G n cs bs y = omega (arith, y .least)
 
 module _ (plan : List ℤ) (s : Shape) (some-lift : 0 < s .lift) where
-  -- then every simple cycle has n checks at least
-  none-passes : (n : ℕ) → NoneBefore (blocksOf plan s) n → Passes (graphOf plan s) (2 * n)
-  unfolding Passes
-  none-passes n before k cs bs y =
-      let (m, two, h, met) = met-cycle plan s some-lift k cs bs y in
-      by-le n m (λ p. omega arith) (λ p. absurd (met (before m two p)))
-
-  -- and what round n finds is one: a shorter one would have been met before
-  first-found : (n : ℕ) (l : List Joint) → 2 ≤ n → NoneBefore (blocksOf plan s) n → closedWalk (blocksOf plan s) n ≡ some l
-      → (length l ≡ n) × SimpleCycle (graphOf plan s) n (checksIn l) (bitsIn l)
-  unfolding Passes
-  first-found n l two before e =
-      let (size, y) = found-cycle plan s some-lift n l two e in
-      (size, elim y [ inl c ↦ c | inr z ↦ absurd (omega (arith, z .fits, none-passes n before (z .n) (z .cs) (z .bs) (z .cycle))) ])
-
-  rounds : (k n t : ℕ) → 2 ≤ n → n + k ≡ t → NoneBefore (blocksOf plan s) n → Verdict (graphOf plan s) t (shortest (blocksOf plan s) k n)
+  rounds : (k n t : ℕ) → 2 ≤ n → n + k ≡ t → Passes (graphOf plan s) (2 * n) → Verdict (graphOf plan s) t (shortest (blocksOf plan s) k n)
   unfolding shortest
-  rounds zero n t two e before = let h : n ≡ t = omega arith in passes (rw h at (none-passes n before))
-  rounds (suc k) n t two e before = step (closedWalk (blocksOf plan s) n) refl (rounds k (suc n) t (omega arith) (omega arith))
+  rounds zero n t two e p = let h : n ≡ t = omega arith in passes (rw h at p)
+  rounds (suc k) n t two e p = step (shortCycle (blocksOf plan s) n) refl (rounds k (suc n) t (omega arith) (omega arith))
     where
-      step : (r : Result) → closedWalk (blocksOf plan s) n ≡ r
-          → (NoneBefore (blocksOf plan s) (suc n) → Verdict (graphOf plan s) t (shortest (blocksOf plan s) k (suc n)))
+      step : (r : Result) → shortCycle (blocksOf plan s) n ≡ r
+          → (Passes (graphOf plan s) (2 * suc n) → Verdict (graphOf plan s) t (shortest (blocksOf plan s) k (suc n)))
           → Verdict (graphOf plan s) t (unlessFound n r (shortest (blocksOf plan s) k (suc n)))
-      step none h more = more (λ m a b. by-eq m n (λ q. rw q h) (λ q. before m a (omega arith)))
-      step (some l) h more = let (size, y) = first-found n l two before h in shows n l (omega arith) size y (none-passes n before)
+      step none h more = more (passes-on plan s some-lift n two h p)
+      step (some w) h more = let (size, y) = found-cycle plan s some-lift n w two p h in shows n w (omega arith) size y p
 
--- an answer in five places, with zeros behind it
+-- an answer in its places, with zeros behind it
 
 zeros : (m k : ℕ) → _≡_ {A = ℕ} (getD (replicate m 0) k 0) 0
 zeros zero k = refl
@@ -79,16 +69,16 @@ past-end (x ∷ xs) m (suc k) h = past-end xs m k (omega arith)
 in-places : (n m : ℕ) (xs ys : List ℕ) → length xs ≡ n → ys ≡ xs ++ replicate m 0 → (take n ys ≡ xs) × ((k : ℕ) → n ≤ k → getD ys k 0 ≡ 0)
 in-places n m xs ys e h = (ap (take n) h ∙ take-at xs (replicate m 0) n e, λ k q. ap (λ (l : List ℕ). getD l k 0) h ∙ past-end xs m k (omega arith))
 
-laid-out : (n : ℕ) (l : List Joint) → length l ≤ places
-    → (witness n (trail l) .checks ≡ checksIn l ++ replicate (places - length l) 0) × (witness n (trail l) .bits ≡ bitsIn l ++ replicate (places - length l) 0)
-unfolding trail
-laid-out n [] h = (refl, refl)
-laid-out n (a ∷ []) h = (refl, refl)
-laid-out n (a ∷ b ∷ []) h = (refl, refl)
-laid-out n (a ∷ b ∷ c ∷ []) h = (refl, refl)
-laid-out n (a ∷ b ∷ c ∷ d ∷ []) h = (refl, refl)
-laid-out n (a ∷ b ∷ c ∷ d ∷ e ∷ []) h = (refl, refl)
-laid-out n (a ∷ b ∷ c ∷ d ∷ e ∷ f ∷ l) h = absurd (let z : ⊥ = omega arith in z)
+laid-out : (n z : ℕ) (l : List Joint) → length l ≤ places
+    → (witness n (lay z l) .checks ≡ checksIn l ++ replicate (places - length l) 0) × (witness n (lay z l) .bits ≡ bitsIn l ++ replicate (places - length l) 0)
+unfolding lay
+laid-out n z [] h = (refl, refl)
+laid-out n z (a ∷ []) h = (refl, refl)
+laid-out n z (a ∷ b ∷ []) h = (refl, refl)
+laid-out n z (a ∷ b ∷ c ∷ []) h = (refl, refl)
+laid-out n z (a ∷ b ∷ c ∷ d ∷ []) h = (refl, refl)
+laid-out n z (a ∷ b ∷ c ∷ d ∷ e ∷ []) h = (refl, refl)
+laid-out n z (a ∷ b ∷ c ∷ d ∷ e ∷ f ∷ l) h = absurd (let q : ⊥ = omega arith in q)
 
 -- what an allowed target is to the search: it is even, and its rounds fit in the places
 pub record Rounds (target : ℕ) : Type 0 where
@@ -116,7 +106,7 @@ module _ (plan : List ℤ) (s : Shape) (target : ℕ) (accepted : lowest (testRu
       (inside 1 4096 (s .lift) .0 l .0, allowed-rounds target (not-false (allowed target) t))
 
   pub model-verdict : Verdict (graphOf plan s) (target / 2) (shortest (blocksOf plan s) (target / 2 - 2) 2)
-  model-verdict = rounds plan s (asked .0) (target / 2 - 2) 2 (target / 2) (omega arith) (asked .1 .whole) (λ m a b. absurd (let z : ⊥ = omega arith in z))
+  model-verdict = rounds plan s (asked .0) (target / 2 - 2) 2 (target / 2) (omega arith) (asked .1 .whole) (passes-first (graphOf plan s))
 
   -- THE LAW: the model's answer is the test's
   pub model-answers : Answer plan (s .rows) (s .cols) (s .lift) target (shortest (blocksOf plan s) (target / 2 - 2) 2)
@@ -124,11 +114,12 @@ module _ (plan : List ℤ) (s : Shape) (target : ℕ) (accepted : lowest (testRu
     where
       go : {r : GirthTest} → Verdict (graphOf plan s) (target / 2) r → Answer plan (s .rows) (s .cols) (s .lift) target r
       go (passes p) = passed accepted (rw (asked .1 .even) at p)
-      go (shows n l h size y p) =
-          let (cs, bs) = laid-out n l (omega (arith, asked .1 .fits)) in
-          let (f, u) = in-places n (places - length l) (checksIn l) (witness n (trail l) .checks) (length-map l (λ e. e .check) ∙ size) cs in
-          let (g, v) = in-places n (places - length l) (bitsIn l) (witness n (trail l) .bits) (length-map l (λ e. e .bit) ∙ size) bs in
-          failed (witness n (trail l)) accepted
+      go (shows n w h size y p) =
+          let l = w .joints in
+          let (cs, bs) = laid-out n (w .end) l (omega (arith, asked .1 .fits)) in
+          let (f, u) = in-places n (places - length l) (checksIn l) (witness n (trail w) .checks) (length-map l (λ e. e .check) ∙ size) cs in
+          let (g, v) = in-places n (places - length l) (bitsIn l) (witness n (trail w) .bits) (length-map l (λ e. e .bit) ∙ size) bs in
+          failed (witness n (trail w)) accepted
           (record {
             failed = refl;
             short = omega (arith, asked .1 .even);

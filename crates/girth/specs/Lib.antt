@@ -1,2 +1,3 @@
 pub mod Test
 pub mod Model
+pub mod Calls

@@ -6,12 +6,14 @@ use lib.IntN.{ℤ}
 use Rattle.refusal.specs.declared.Refusal.{Refusal}
 use Rattle.refusal.specs.Lowest.{lowest}
 use Rattle.walks.specs.declared.trail.Trail.{Trail}
-use Rattle.walks.specs.Search.{Blocks, blocksOf, Result, closedWalk, trail}
+use Rattle.walks.specs.Steps.{Blocks, blocksOf}
+use Rattle.walks.specs.Meeting.{Result, shortCycle}
+use Rattle.walks.specs.Trail.{trail}
 use Rattle.girth.specs.declared.GirthTest.{GirthTest}
 use Rattle.girth.specs.declared.Outcome.the-variants.{Passed, Failed, Refused}
 use Rattle.girth.specs.Test.{testRules, without-witness}
 
--- the answer that shows a closed walk over n checks
+-- the answer that shows a cycle of n checks
 abbrev pub witness : ℕ → Trail → GirthTest
 witness n t =
     record {
@@ -23,12 +25,12 @@ witness n t =
 
 abbrev pub unlessFound : ℕ → Result → GirthTest → GirthTest
 unlessFound n none rest = rest
-unlessFound n (some l) rest = witness n (trail l)
+unlessFound n (some w) rest = witness n (trail w)
 
--- a closed walk over the fewest checks, among k numbers of checks from n on; the plan passes where there is none
+-- a cycle of the fewest checks, among k numbers of checks from n on; the plan passes where there is none
 unfoldable pub shortest : Blocks → ℕ → ℕ → GirthTest
 shortest B zero n = without-witness Passed
-shortest B (suc k) n = let rest = shortest B k (suc n) in unlessFound n (closedWalk B n) rest
+shortest B (suc k) n = let rest = shortest B k (suc n) in unlessFound n (shortCycle B n) rest
 
 -- the whole test
 abbrev pub onRefusal : Option Refusal → GirthTest → GirthTest

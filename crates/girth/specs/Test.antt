@@ -14,6 +14,7 @@ use Rattle.graph.specs.Graph.{Bipartite}
 use Rattle.graph.specs.Girth.{SimpleCycle, Passes}
 use Rattle.exponent.specs.Limits.{planRules}
 use Rattle.exponent.specs.Tanner.{tanner}
+use Rattle.walks.specs.Trail.{places}
 use Rattle.girth.specs.declared.GirthTest.{GirthTest}
 use Rattle.girth.specs.declared.Outcome.{Outcome}
 use Rattle.girth.specs.declared.Outcome.the-variants.{Passed, Failed, Refused}
@@ -30,11 +31,7 @@ allowed target = member target targets
 unfoldable pub testRules : List ℤ → ℕ → ℕ → ℕ → ℕ → List Rule
 testRules plan rows cols lift target = planRules plan rows cols lift ++ refuse Target (not (allowed target)) ∷ []
 
--- the places that the answer has for checks, and for bits
-abbrev pub places : ℕ
-places = 5
-
--- an answer without a witness: all places are 0
+-- an answer without a witness: all places, for checks and for bits, are 0
 abbrev pub without-witness : Outcome → GirthTest
 without-witness o = record { outcome = o; n = 0; checks = replicate places 0; bits = replicate places 0 }
 

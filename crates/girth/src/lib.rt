@@ -1,17 +1,18 @@
 // The girth test (document 01: girth verdict): whether a plan's Tanner graph has no simple cycle shorter than a target.
 ghost use mathlib.Core.Path.{_≡_};
-ghost use Prim.Native.Nat.{_-_, _/_, _≤_};
+ghost use Prim.Native.Nat.{_+_, _-_, _/_, _≤_};
 ghost use Rattle.exponent.specs.Limits.{WellFormed};
-ghost use Rattle.walks.specs.Search.{blocksOf};
+ghost use Rattle.walks.specs.Steps.{blocksOf};
+ghost use Rattle.walks.specs.Trail.{places};
 ghost use Rattle.girth.specs.Model.{shortest};
 ghost use Rattle.girth.specs.Test.{Answer, allowed, without-witness};
 
-mod search; // search.rt: closed walks from a bit, by two functions that call each other
-mod rounds; // rounds.rt: closed walks over 2, 3, … checks, and the answer that shows one
+mod rounds; // rounds.rt: cycles of 2, 3, … checks, and the answer that shows one
 
 use exponent::Shape;
 use exponent::Validity;
 use refusal::Refusal;
+use walks::trail::PLACES;
 
 pub enum Outcome {
     Passed,
@@ -23,8 +24,8 @@ pub enum Outcome {
 pub struct GirthTest {
     pub outcome: Outcome,
     pub n: usize,
-    pub checks: [usize; 5],
-    pub bits: [usize; 5],
+    pub checks: [usize; PLACES],
+    pub bits: [usize; PLACES],
 }
 
 // Whether the target is one that the test takes.
@@ -47,20 +48,21 @@ pub fn without_witness(outcome: Outcome) -> GirthTest
     GirthTest {
         outcome,
         n: 0,
-        checks: [0; 5],
-        bits: [0; 5],
+        checks: [0; PLACES],
+        bits: [0; PLACES],
     }
 }
 
 // Tests a valid plan at an allowed target.
 fn test_valid(plan: &[i16], shape: Shape, target: usize) -> GirthTest
-    requires { ⌜ WellFormed (now plan) (shape .rows) (shape .cols) (shape .lift) × (target ≤ 12) ⌝ }
+    requires { ⌜ WellFormed (now plan) (shape .rows) (shape .cols) (shape .lift) × (target / 2 ≤ places + 1) ⌝ }
     ensures { λ r. ⌜ r ≡ shortest (blocksOf (now (plan .entry)) shape) (target / 2 - 2) 2 ⌝ }
 {
     let mut down = [0u16; index::PLACES];
     let mut along = [0u16; index::PLACES];
     index::build(plan, shape, &mut down, &mut along);
-    rounds::shortest_below(plan, &down, &along, shape, target / 2)
+    let mut seen = [0u16; walks::STAMPS];
+    rounds::shortest_below(plan, &down, &along, shape, target / 2, &mut seen)
 }
 
 // Whether no simple cycle has fewer edges than the target; else a shortest cycle.

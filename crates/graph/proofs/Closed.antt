@@ -29,7 +29,7 @@ weave [] bs = []
 weave (c ∷ cs) [] = []
 weave (c ∷ cs) (b ∷ bs) = check c ∷ bit b ∷ weave cs bs
 
-weave-check : (c : ℕ) (cs bs : List ℕ) → Mem (check c) (weave cs bs) → Mem c cs
+pub weave-check : (c : ℕ) (cs bs : List ℕ) → Mem (check c) (weave cs bs) → Mem c cs
 unfolding weave
 weave-check c [] bs m = m
 weave-check c (d ∷ cs) [] m = absurd m
@@ -37,7 +37,7 @@ weave-check c (d ∷ cs) (b ∷ bs) (inl e) = inl (check-inj c d e)
 weave-check c (d ∷ cs) (b ∷ bs) (inr (inl e)) = absurd (check-not-bit c b e)
 weave-check c (d ∷ cs) (b ∷ bs) (inr (inr m)) = inr (weave-check c cs bs m)
 
-weave-bit : (b : ℕ) (cs bs : List ℕ) → Mem (bit b) (weave cs bs) → Mem b bs
+pub weave-bit : (b : ℕ) (cs bs : List ℕ) → Mem (bit b) (weave cs bs) → Mem b bs
 unfolding weave
 weave-bit b [] bs m = absurd m
 weave-bit b (d ∷ cs) [] m = m
@@ -45,13 +45,20 @@ weave-bit b (d ∷ cs) (a ∷ bs) (inl e) = absurd (check-not-bit d b (sym e))
 weave-bit b (d ∷ cs) (a ∷ bs) (inr (inl e)) = inl (bit-inj b a e)
 weave-bit b (d ∷ cs) (a ∷ bs) (inr (inr m)) = inr (weave-bit b cs bs m)
 
-bit-weave : (b : ℕ) (cs bs : List ℕ) → length cs ≡ length bs → Mem b bs → Mem (bit b) (weave cs bs)
+pub bit-weave : (b : ℕ) (cs bs : List ℕ) → length cs ≡ length bs → Mem b bs → Mem (bit b) (weave cs bs)
 unfolding weave
 bit-weave b [] [] e m = m
 bit-weave b [] (a ∷ bs) e m = absurd (omega arith)
 bit-weave b (d ∷ cs) [] e m = absurd m
 bit-weave b (d ∷ cs) (a ∷ bs) e (inl h) = inr (inl (ap bit h))
 bit-weave b (d ∷ cs) (a ∷ bs) e (inr m) = inr (inr (bit-weave b cs bs (omega arith) m))
+
+pub check-weave : (c : ℕ) (cs bs : List ℕ) → length cs ≡ length bs → Mem c cs → Mem (check c) (weave cs bs)
+unfolding weave
+check-weave c [] bs e m = m
+check-weave c (d ∷ cs) [] e m = absurd (omega arith)
+check-weave c (d ∷ cs) (b ∷ bs) e (inl h) = inl (ap check h)
+check-weave c (d ∷ cs) (b ∷ bs) e (inr m) = inr (inr (check-weave c cs bs (omega arith) m))
 
 weave-nodup : (cs bs : List ℕ) → Nodup cs → Nodup bs → Nodup (weave cs bs)
 unfolding weave
@@ -101,7 +108,7 @@ cycle-of G n (c ∷ d ∷ cs) (b ∷ bs) y =
       short = omega (arith, weave-length (d ∷ cs) bs (omega arith));
     }
 
-cycle-weave : (G : Bipartite) (n : ℕ) (cs bs : List ℕ) (y : SimpleCycle G n cs bs) → cycle-of G n cs bs y .start ∷ cycle-of G n cs bs y .rest ≡ weave cs bs
+pub cycle-weave : (G : Bipartite) (n : ℕ) (cs bs : List ℕ) (y : SimpleCycle G n cs bs) → cycle-of G n cs bs y .start ∷ cycle-of G n cs bs y .rest ≡ weave cs bs
 unfolding cycle-of weave
 cycle-weave G n [] bs y = absurd (omega (arith, y .least, y .n-checks))
 cycle-weave G n (c ∷ []) bs y = absurd (omega (arith, y .least, y .n-checks))
@@ -175,22 +182,14 @@ module _ (G : Bipartite) where
   closed-cycle b [] y = absurd (omega (arith, y .moves))
   closed-cycle b (v ∷ l) y = fork G (bit b) [] v l _ (tt, tt) (y .walk) tt (sym (y .back)) (omega arith)
 
-  -- a simple cycle is a closed walk from any of its bits, over no other bits
-  pub cycle-at : (n : ℕ) (cs bs : List ℕ) → SimpleCycle G n cs bs → (b : ℕ) → Mem b bs
-      → (l : List Node) × ClosedAt G b l × (length l ≤ 2 * n) × ((a : ℕ) → Mem (bit a) l → Mem a bs)
+  -- a simple cycle is a closed walk from any of its bits
+  cycle-at : (n : ℕ) (cs bs : List ℕ) → SimpleCycle G n cs bs → (b : ℕ) → Mem b bs → (l : List Node) × ClosedAt G b l × (length l ≤ 2 * n)
   cycle-at n cs bs y b m =
-      let (z, s, f) = turn-to G (cycle-of G n cs bs y) (bit b) (subst (Mem (bit b)) (sym (cycle-weave G n cs bs y)) (bit-weave b cs bs (y .n-checks ∙ sym (y .n-bits)) m)) in
-      let within : (a : ℕ) → Mem (bit a) (z .start ∷ z .rest) → Mem a bs = λ a h. weave-bit a cs bs (subst (Mem (bit a)) (cycle-weave G n cs bs y) (f (bit a) h)) in (
+      let (z, s, f) = turn-to G (cycle-of G n cs bs y) (bit b) (subst (Mem (bit b)) (sym (cycle-weave G n cs bs y)) (bit-weave b cs bs (y .n-checks ∙ sym (y .n-bits)) m)) in (
         z .rest ++ bit b ∷ [],
         record { walk = rw s at (z .closed); back = last-append (bit b) (z .rest) (bit b) []; moves = rw length-append (omega arith) },
         rw length-append (omega (arith, z .short)),
-        λ a h. only a (z .start) (z .rest) s within (mem-append (bit a) (z .rest) (bit b ∷ []) h),
       )
-    where
-      only : (a : ℕ) (u : Node) (r : List Node) → u ≡ bit b → ((a : ℕ) → Mem (bit a) (u ∷ r) → Mem a bs) → Mem (bit a) r ⊎ Mem (bit a) (bit b ∷ []) → Mem a bs
-      only a u r s f (inl h) = f a (inr h)
-      only a u r s f (inr (inl e)) = f a (inl (e ∙ sym s))
-      only a u r s f (inr (inr h)) = absurd h
 
   -- the verdict by closed walks from the bits
   pub passes-walks : (t : ℕ) → Passes G t ↔ ((b : ℕ) (l : List Node) → ClosedAt G b l → t ≤ length l)
@@ -202,4 +201,4 @@ module _ (G : Bipartite) where
     where
       walks : ((b : ℕ) (l : List Node) → ClosedAt G b l → t ≤ length l) → (n : ℕ) (cs bs : List ℕ) → SimpleCycle G n cs bs → t ≤ 2 * n
       walks h n cs [] y = absurd (omega (arith, y .least, y .n-bits))
-      walks h n cs (b ∷ bs) y = let (l, z, k, _) = cycle-at n cs (b ∷ bs) y b (inl refl) in omega (arith, h b l z)
+      walks h n cs (b ∷ bs) y = let (l, z, k) = cycle-at n cs (b ∷ bs) y b (inl refl) in omega (arith, h b l z)

@@ -218,6 +218,12 @@ crowd (x ∷ xs) f l u d h =
       crowd xs (without f x) l u (d .1) (λ y m. (h y (inr m) .0, without-other f x y (λ e. d .0 (subst (λ (z : ℕ). Mem z xs) e m)) ∙ h y (inr m) .1)),
     )
 
+-- and so no more different numbers than n are below n
+pub few-below : (n : ℕ) (xs : List ℕ) → Nodup xs → ((x : ℕ) → Mem x xs → x < n) → length xs ≤ n
+few-below n xs d low =
+    let few = crowd xs (λ x. true) (below n) (nodup-range 0 n) d (λ x m. (range-mem x 0 n (omega arith) (omega (arith, low x m)), refl)) in
+    omega (arith, few, count-le (λ x. true) (below n), length-range 0 n)
+
 -- where the count is not 1, a member is not the only one
 pub another : (f : ℕ → Bool) (l : List ℕ) (x : ℕ) → Nodup l → count f l ≢ 1 → Mem x l → f x ≡ true → (y : ℕ) × Mem y l × (f y ≡ true) × (y ≢ x)
 another f l x u n m e =

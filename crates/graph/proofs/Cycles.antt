@@ -64,7 +64,7 @@ bit-made : (n : Node) (x : ℕ) → bitOf n ≡ some x → bit x ≡ n
 bit-made (check c) x e = absurd (Option·none-ne-some x e)
 bit-made (bit b) x e = let same : b ≡ x = cc in ap bit (sym same)
 
-both : (l : List Node) → length l ≡ length (checks-of l) + length (bits-of l)
+pub both : (l : List Node) → length l ≡ length (checks-of l) + length (bits-of l)
 unfolding numbers
 both [] = refl
 both (check c ∷ l) = omega (arith, both l)

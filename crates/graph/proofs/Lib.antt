@@ -5,9 +5,11 @@ pub mod Neighbours
 pub mod Walks
 pub mod Cycles
 pub mod Closed
+pub mod Meeting
 pub mod Tree
 pub mod Cases
 pub mod Peeling
 pub mod Filling
 pub mod Images
 pub mod Recovery
+pub mod Ends

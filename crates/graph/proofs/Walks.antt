@@ -151,11 +151,20 @@ module _ (G : Bipartite) where
   Fork (x ∷ l) r = Apart x r
 
   -- back along one walk, and on along the other
-  turn : (u : Node) (l r : List Node) → Walk G (u ∷ l) → Walk G (u ∷ r) → Fork l r → Walk G (reverseAux l (u ∷ r))
+  pub turn : (u : Node) (l r : List Node) → Walk G (u ∷ l) → Walk G (u ∷ r) → Fork l r → Walk G (reverseAux l (u ∷ r))
   turn u [] r wl wr f = wr
   turn u (x ∷ l) r wl wr f = turn x l (u ∷ r) (wl .1) ((adj-sym G u x (wl .0 .0), f), wr) (flip l (wl .0 .1))
     where
       flip : (l : List Node) → Apart u l → Fork l (u ∷ r)
+      flip [] h = tt
+      flip (y ∷ l) h = λ e. h (sym e)
+
+  -- and the other way: a walk through u is one back to its first vertex and one on to its last
+  pub unturn : (u : Node) (l r : List Node) → Walk G (reverseAux l (u ∷ r)) → Walk G (u ∷ l) × Walk G (u ∷ r) × Fork l r
+  unturn u [] r w = ((tt, tt), w, tt)
+  unturn u (x ∷ l) r w = let (a, b, f) = unturn x l (u ∷ r) w in (((adj-sym G x u (b .0 .0), flip l f), a), b .1, b .0 .1)
+    where
+      flip : (l : List Node) → Fork l (u ∷ r) → Apart u l
       flip [] h = tt
       flip (y ∷ l) h = λ e. h (sym e)
 

@@ -9,7 +9,6 @@ use borrow.Author.Tests.{eqb-true}
 use lib.IntN.{ℤ}
 use lib.ListN.{length, getD, List·getD-eq-default}
 use Rattle.refusal.specs.Lowest.{lowest}
-use Rattle.refusal.proofs.Lowest.{none-append}
 use Rattle.graph.specs.Girth.{Passes}
 use Rattle.graph.specs.Stopping.{Least, girth-6, girth-8, girth-10, girth-12}
 use Rattle.graph.specs.Erasure.{erased, Codeword}
@@ -19,7 +18,7 @@ use Rattle.exponent.specs.Limits.{planRules, validity, WellFormed}
 use Rattle.exponent.specs.Tanner.{tanner, ThreeBlocks}
 use Rattle.exponent.proofs.Rules.{accepted, valid-none}
 use Rattle.exponent.proofs.Tanner.{three-checks}
-use Rattle.girth.specs.Test.{testRules}
+use Rattle.girth.proofs.Rules.{formed}
 use Rattle.syndrome.proofs.Rules.{word-accepted, even-exactly}
 use Rattle.peeling.specs.declared.Filling.the-variants.{Filled}
 use Rattle.peeling.proofs.Rules.{not-refused}
@@ -55,11 +54,6 @@ module _ (plan : List ℤ) (rows cols lift target bound : ℕ) (at : Bound targe
       (record { codeword = code; same-length = loses .same-length; kept = loses .kept }) (omega (arith, loses .few)) in
       let filled = not-refused plan rows cols lift f′ valid (back .0) in
       record { answer = filled .0 ∙ ap₂ Filled (back .2) (back .3); word = filled .1 ∙ back .1 }
-
--- a plan that is tested is valid
-formed : (plan : List ℤ) (rows cols lift target : ℕ) → lowest (testRules plan rows cols lift target) ≡ none → WellFormed plan rows cols lift
-unfolding testRules
-formed plan rows cols lift target e = accepted plan rows cols lift .0 (none-append (planRules plan rows cols lift) _ .0 e .0)
 
 pub promise-3 : Promise-3
 promise-3 plan rows cols lift target bound at r answer pass three f g f′ g′ code-f code-g loses-f loses-g =

@@ -1,46 +1,84 @@
--- The parts of an answer: the first of a range has one where some place has one, and what joins answers keeps them.
--- Assumes nothing.
-use Prim.Native.Nat.{ℕ, zero, suc, _+_, _≤_, _<_}
-use mathlib.Core.Path.{_≡_, refl, sym, subst}
-use mathlib.Core.Logic.{_⊎_, inl, inr}
-use mathlib.Core.List.{List, [], _∷_}
-use mathlib.Core.Option.{none, some, Option·none-ne-some}
+-- What a round finds is a simple cycle: two ways that meet, where no cycle has fewer edges. Assumes nothing.
+use Prim.Native.Nat.{ℕ, _+_, _*_, _≤_, _<_}
+use mathlib.Core.Path.{_≡_, refl, sym, ap, ap₂, subst, _∙_}
+use mathlib.Core.Logic.{_≢_}
+use mathlib.Core.List.{List, [], _∷_, reverseAux}
+use mathlib.Core.Bool.{Bool, true, false}
+use mathlib.Core.Option.{some}
 use native.Mathlib.Omega.{arith}
-use Rattle.graph.proofs.Decide.{by-eq}
-use Rattle.walks.specs.Search.{Joint, Result, orElse, after, home, firstOf}
+use lib.IntN.{ℤ}
+use lib.ListN.{length, length-map}
+use Rattle.graph.specs.Count.{Mem}
+use Rattle.graph.specs.Graph.{Bipartite}
+use Rattle.graph.proofs.Lists.{last}
+use Rattle.graph.proofs.Walks.{Node, check, bit}
+use Rattle.graph.specs.Girth.{SimpleCycle, Passes}
+use Rattle.graph.proofs.Cycles.{checks-of, bits-of}
+use Rattle.graph.proofs.Meeting.{Meeting, meeting-cycle}
+use Rattle.exponent.specs.declared.Shape.{Shape}
+use Rattle.exponent.specs.Tanner.{graphOf}
+use Rattle.walks.specs.Steps.{Blocks, blocksOf}
+use Rattle.walks.specs.Ways.{Joint, Way, odd, roots, ways}
+use Rattle.walks.specs.Meeting.{repeat, joinBy, join, with-way, meeting, shortCycle}
+use Rattle.walks.proofs.Repeats.{some-mem, other-way}
+use Rattle.walks.proofs.Link.{at-0}
+use Rattle.walks.proofs.Nodes.{nodes, nodes-checks, nodes-bits, checksIn, bitsIn, back-nodes, back-to-check}
+use Rattle.walks.proofs.Answers.{some-at, with-some}
+use Rattle.walks.proofs.Roots.{rootOf, lead, Walked, same-way, walked, distinct}
 
-or-some : (a b : Result) (l : List Joint) → orElse a b ≡ some l → (a ≡ some l) ⊎ (b ≡ some l)
-or-some none b l e = inr e
-or-some (some k) b l e = inl e
+around : (G : Bipartite) (n : ℕ) (t : Bool) (z : ℕ) (w v : Way) (a : Walked G n (rootOf t z) w) (b : Walked G n (rootOf t z) v)
+    → reverseAux (a .after) (rootOf t z ∷ b .after) ≡ bit (w .end) ∷ nodes (joinBy t z (w .joints) (v .joints))
+around G n true z w v a b = back-to-check z (w .joints) (v .joints) (a .after) (b .after) (w .end) (a .shown) (b .shown) (a .ends)
+around G n false z w v a b =
+    ap₂ (λ (x y : List Node). reverseAux x (bit z ∷ y)) (sym (a .shown)) (sym (b .shown)) ∙ back-nodes z (w .joints) (v .joints) (w .end) (ap (last (bit z)) (a .shown) ∙ a .ends)
 
-or-none : (a b : Result) → orElse a b ≡ none → (a ≡ none) × (b ≡ none)
-or-none none b e = (refl, e)
-or-none (some l) b e = absurd (Option·none-ne-some l (sym e))
+module _ (plan : List ℤ) (s : Shape) (some-lift : 0 < s .lift) where
+  abbrev G : Bipartite
+  G = graphOf plan s
 
-pub some-at : (f : ℕ → Result) (k i : ℕ) (l : List Joint) → firstOf f k i ≡ some l → (j : ℕ) × (i ≤ j) × (j < i + k) × (f j ≡ some l)
-unfolding firstOf
-some-at f zero i l e = absurd (Option·none-ne-some l e)
-some-at f (suc k) i l e =
-    elim (or-some (f i) (firstOf f k (suc i)) l e) [
-      | inl h ↦ (i, omega arith, omega arith, h)
-      | inr h ↦ let (j, p, q, a) = some-at f k (suc i) l h in (j, omega arith, omega arith, a)
-    ]
+  abbrev B : Blocks
+  B = blocksOf plan s
 
-pub none-at : (f : ℕ → Result) (k i : ℕ) → firstOf f k i ≡ none → (j : ℕ) → i ≤ j → j < i + k → f j ≡ none
-unfolding firstOf
-none-at f zero i e j p q = absurd (let z : ⊥ = omega arith in z)
-none-at f (suc k) i e j p q =
-    let (a, b) = or-none (f i) (firstOf f k (suc i)) e in
-    by-eq i j (λ s. subst (λ (n : ℕ). f n ≡ none) s a) (λ d. none-at f k (suc i) b j (omega arith) (omega arith))
+  -- FOUND: two ways that meet are a cycle
 
-pub after-some : (e : Joint) (r : Result) (l : List Joint) → after e r ≡ some l → (k : List Joint) × (r ≡ some k) × (l ≡ e ∷ k)
-after-some e none l h = absurd (Option·none-ne-some l h)
-after-some e (some k) l h = (k, refl, (cc))
+  module _ (n : ℕ) (k : ℕ) (low : k < roots B n) (w v : Way) (ends : v .end ≡ w .end) (differ : v ≢ w) (m : Mem w (ways B n k)) (h : Mem v (ways B n k)) where
+    abbrev root : Node
+    root = rootOf (odd n) (at-0 s k)
 
-pub after-none : (e : Joint) (r : Result) → after e r ≡ none → r ≡ none
-after-none e none h = refl
-after-none e (some k) h = absurd (Option·none-ne-some (e ∷ k) (sym h))
+    two-ways : Meeting G n root
+    two-ways =
+        let ow = walked plan s some-lift n k low w m in
+        let ov = walked plan s some-lift n k low v h in
+        record {
+          one = ow .after;
+          two = ov .after;
+          walk-one = ow .walk;
+          walk-two = ov .walk;
+          long-one = ow .long;
+          long-two = ov .long;
+          end = bit (w .end);
+          ends-one = ow .ends;
+          ends-two = ov .ends ∙ ap bit ends;
+          differ = λ q. differ (same-way v w (ov .shown ∙ ap (lead root) (sym q) ∙ sym (ow .shown)) ends);
+        }
 
-pub home-some : (n : ℕ) (e : Joint) (l : List Joint) → home n e ≡ some l → (n ≡ 0) × (l ≡ e ∷ [])
-home-some zero e l h = (refl, (cc))
-home-some (suc n) e l h = absurd (Option·none-ne-some l h)
+    found-by : 2 ≤ n → Passes G (2 * n) → let l = join B n k w v .joints in SimpleCycle G n (checks-of (nodes l)) (bits-of (nodes l))
+    unfolding two-ways
+    found-by two passes =
+        meeting-cycle G n two passes root two-ways (w .end) refl (nodes (join B n k w v .joints))
+        (around G n (odd n) (at-0 s k) w v (walked plan s some-lift n k low w m) (walked plan s some-lift n k low v h))
+
+  -- what a round finds is a simple cycle
+  pub found-cycle : (n : ℕ) (c : Way) → 2 ≤ n → Passes (graphOf plan s) (2 * n) → shortCycle (blocksOf plan s) n ≡ some c
+      → (length (c .joints) ≡ n) × SimpleCycle (graphOf plan s) n (checksIn (c .joints)) (bitsIn (c .joints))
+  unfolding shortCycle meeting
+  found-cycle n c two passes e =
+      let (k, p, low, h) = some-at (meeting B n) (roots B n) 0 c e in
+      let (w, a, g) = with-some (repeat [] (ways B n k)) (λ w. with-way (repeat (w .end ∷ []) (ways B n k)) (λ v. some (join B n k w v))) c h in
+      let (v, b, j) = with-some (repeat (w .end ∷ []) (ways B n k)) (λ v. some (join B n k w v)) c g in
+      let (differ, ends) = other-way [] (ways B n k) w v (distinct plan s some-lift n k) (λ m. m) a b in
+      let l = join B n k w v .joints in
+      let same : l ≡ c .joints = ap (λ (x : Way). x .joints) (let z : join B n k w v ≡ c = cc in z) in
+      let y = found-by n k (omega arith) w v ends differ (some-mem [] (ways B n k) w a) (some-mem (w .end ∷ []) (ways B n k) v b) two passes in
+      let shown = subst (λ (x : List Joint). SimpleCycle G n (checksIn x) (bitsIn x)) same (rw (nodes-checks l, nodes-bits l) at y) in
+      (sym (length-map (c .joints) (λ e. e .check)) ∙ shown .n-checks, shown)

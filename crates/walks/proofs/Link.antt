@@ -5,7 +5,6 @@ use mathlib.Core.Path.{_≡_, refl, sym, ap, ap₂, _∙_}
 use mathlib.Core.Logic.{_≢_}
 use mathlib.Core.Bool.{Bool, true, false}
 use mathlib.Core.List.{List}
-use mathlib.Core.Option.{some, Option·none-ne-some}
 use native.Mathlib.Omega.{arith}
 use native.Mathlib.Nat.{mod-lt}
 use borrow.Author.Tests.{eqb-true, eq-eqb, eqb-false, ne-eqb}
@@ -21,7 +20,9 @@ use Rattle.exponent.specs.Position.{forward, back}
 use Rattle.exponent.specs.Tanner.{edge, tanner, graphOf}
 use Rattle.exponent.proofs.Numbers.{same-number, block-of, place-of, number-low, block-low, undo}
 use Rattle.exponent.proofs.Tanner.{shift-low}
-use Rattle.walks.specs.Search.{Joint, Result, blocksOf, over, unless, toColumn, toRow, andThen}
+use Rattle.walks.specs.declared.Step.the-variants.{To}
+use Rattle.walks.specs.Steps.{blocksOf, over, unless, toColumn, toRow}
+use Rattle.walks.specs.Ways.{rootBit, rootCheck}
 
 -- at check c, come from bit b; and at bit b, come from check c
 abbrev pub checkFrom : ℕ → ℕ → ℕ → Position
@@ -30,16 +31,16 @@ checkFrom lift b c = record { row = c / lift; col = b / lift; voltage = c % lift
 abbrev pub bitFrom : ℕ → ℕ → ℕ → Position
 bitFrom lift c b = record { row = c / lift; col = b / lift; voltage = b % lift }
 
--- An answer behind a step to row or column i, come from k: the block is filled, and another one than was just used.
-module _ (f : ℕ → Position) (next : Position → Result) where
-  taken : (b : Block) (t : Bool) (l : List Joint) → andThen (unless t (over b f)) next ≡ some l → (t ≡ false) × ((e : ℕ) × (b ≡ Shift e) × (next (f e) ≡ some l))
-  taken b true l h = absurd (Option·none-ne-some l h)
-  taken Zero false l h = absurd (Option·none-ne-some l h)
-  taken (Shift e) false l h = (refl, (e, refl, h))
-  taken Invalid false l h = absurd (Option·none-ne-some l h)
+-- A step to row or column i, come from k: the block is filled, and another one than was just used.
+module _ (f : ℕ → Position) where
+  taken : (b : Block) (t : Bool) (q : Position) → unless t (over b f) ≡ To q → (t ≡ false) × ((e : ℕ) × (b ≡ Shift e) × (f e ≡ q))
+  taken b true q h = absurd (let z : _≡_ {A = ℕ} 0 1 = cc in omega arith)
+  taken Zero false q h = absurd (let z : _≡_ {A = ℕ} 0 1 = cc in omega arith)
+  taken (Shift e) false q h = (refl, (e, refl, (cc)))
+  taken Invalid false q h = absurd (let z : _≡_ {A = ℕ} 0 1 = cc in omega arith)
 
-  takes : (b : Block) (i k e : ℕ) (q : Position) → i ≢ k → b ≡ Shift e → f e ≡ q → andThen (unless (eqb i k) (over b f)) next ≡ next q
-  takes b i k e q d h p = ap₂ (λ (t : Bool) (x : Block). andThen (unless t (over x f)) next) (ne-eqb i k d) h ∙ ap next p
+  takes : (b : Block) (i k e : ℕ) (q : Position) → i ≢ k → b ≡ Shift e → f e ≡ q → unless (eqb i k) (over b f) ≡ To q
+  takes b i k e q d h p = ap₂ (λ (t : Bool) (x : Block). unless t (over x f)) (ne-eqb i k d) h ∙ ap To p
 
 edge-shift : (b : Block) (lift y z : ℕ) → edge b lift y z ≡ true → (e : ℕ) × (b ≡ Shift e) × ((y + e) % lift ≡ z)
 edge-shift Zero lift y z h = absurd (let z : _≡_ {A = ℕ} 0 1 = cc in omega arith)
@@ -109,41 +110,62 @@ module _ (plan : List ℤ) (s : Shape) where
         let h : p .shift ≡ q .shift = cc (p .block, q .block) in
         same-number P a c e (sym (p .back) ∙ ap (λ (x : ℕ). (b % P + (P - x)) % P) h ∙ q .back)
 
-    module _ (next : Position → Result) where
-      -- an answer behind a step from check c to column j is one at another bit of c, in that column
-      pub bit-some : (b c j : ℕ) (l : List Joint) → c < graphOf plan s .checks → j < s .cols → andThen (toColumn (blocksOf plan s) (checkFrom (s .lift) b c) j) next ≡ some l
-          → (a : ℕ) × (a / s .lift ≡ j) × Joined (graphOf plan s) c a × (b ≢ a) × (next (bitFrom (s .lift) c a) ≡ some l)
-      unfolding tanner
-      bit-some b c j l low h e =
-          let (t, (x, w, k)) = taken (forward P (checkFrom P b c) j) next (block (c / P) j) (eqb j (b / P)) l e in
-          let a = numbered (s .cols) j ((c % P + x) % P) h (mod-lt (c % P + x) some-lift) in
-          let r : bitFrom P c (a .number) ≡ forward P (checkFrom P b c) j x = λ i. record { row = c / P; col = a .block i; voltage = a .place i } in
-          let joined = over-edge c (a .number) x low (a .low) (ap (block (c / P)) (a .block) ∙ w) (sym (a .place)) in
-          (a .number, a .block, joined, apart P j b (a .number) t (a .block), ap next r ∙ k)
+    -- a step from check c to column j leads to another bit of c, in that column
+    pub step-bit : (b c j : ℕ) (q : Position) → c < graphOf plan s .checks → j < s .cols → toColumn (blocksOf plan s) (checkFrom (s .lift) b c) j ≡ To q
+        → (a : ℕ) × (a / s .lift ≡ j) × Joined (graphOf plan s) c a × (b ≢ a) × (bitFrom (s .lift) c a ≡ q)
+    unfolding tanner
+    step-bit b c j q low h e =
+        let (t, (x, w, k)) = taken (forward P (checkFrom P b c) j) (block (c / P) j) (eqb j (b / P)) q e in
+        let a = numbered (s .cols) j ((c % P + x) % P) h (mod-lt (c % P + x) some-lift) in
+        let r : bitFrom P c (a .number) ≡ forward P (checkFrom P b c) j x = λ i. record { row = c / P; col = a .block i; voltage = a .place i } in
+        let joined = over-edge c (a .number) x low (a .low) (ap (block (c / P)) (a .block) ∙ w) (sym (a .place)) in
+        (a .number, a .block, joined, apart P j b (a .number) t (a .block), r ∙ k)
 
-      -- and behind a step from bit b to row i, at another check of b, in that row
-      pub check-some : (c b i : ℕ) (l : List Joint) → b < graphOf plan s .bits → i < s .rows → andThen (toRow (blocksOf plan s) (bitFrom (s .lift) c b) i) next ≡ some l
-          → (a : ℕ) × (a / s .lift ≡ i) × Joined (graphOf plan s) a b × (c ≢ a) × (next (checkFrom (s .lift) b a) ≡ some l)
-      unfolding tanner
-      check-some c b i l low h e =
-          let (t, (x, w, k)) = taken (back P (bitFrom P c b) i) next (block i (b / P)) (eqb i (c / P)) l e in
-          let a = numbered (s .rows) i ((b % P + (P - x)) % P) h (mod-lt (b % P + (P - x)) some-lift) in
-          let r : checkFrom P b (a .number) ≡ back P (bitFrom P c b) i x = λ i. record { row = a .block i; col = b / P; voltage = a .place i } in
-          let f = undo P some-lift (P - x) x (b % P) (a .number % P) (omega (arith, shift-low plan (s .cols) P i (b / P) x some-lift w)) (mod-lt b some-lift) (sym (a .place)) in
-          let joined = over-edge (a .number) b x (a .low) low (ap (λ (y : ℕ). block y (b / P)) (a .block) ∙ w) f in
-          (a .number, a .block, joined, apart P i c (a .number) t (a .block), ap next r ∙ k)
+    -- and one from bit b to row i to another check of b, in that row
+    pub step-check : (c b i : ℕ) (q : Position) → b < graphOf plan s .bits → i < s .rows → toRow (blocksOf plan s) (bitFrom (s .lift) c b) i ≡ To q
+        → (a : ℕ) × (a / s .lift ≡ i) × Joined (graphOf plan s) a b × (c ≢ a) × (checkFrom (s .lift) b a ≡ q)
+    unfolding tanner
+    step-check c b i q low h e =
+        let (t, (x, w, k)) = taken (back P (bitFrom P c b) i) (block i (b / P)) (eqb i (c / P)) q e in
+        let a = numbered (s .rows) i ((b % P + (P - x)) % P) h (mod-lt (b % P + (P - x)) some-lift) in
+        let r : checkFrom P b (a .number) ≡ back P (bitFrom P c b) i x = λ i. record { row = a .block i; col = b / P; voltage = a .place i } in
+        let f = undo P some-lift (P - x) x (b % P) (a .number % P) (omega (arith, shift-low plan (s .cols) P i (b / P) x some-lift w)) (mod-lt b some-lift) (sym (a .place)) in
+        let joined = over-edge (a .number) b x (a .low) low (ap (λ (y : ℕ). block y (b / P)) (a .block) ∙ w) f in
+        (a .number, a .block, joined, apart P i c (a .number) t (a .block), r ∙ k)
 
-      -- each edge to another column, or row, is such a step
-      pub bit-step : (b c a : ℕ) → Joined (graphOf plan s) c a → b / s .lift ≢ a / s .lift
-          → andThen (toColumn (blocksOf plan s) (checkFrom (s .lift) b c) (a / s .lift)) next ≡ next (bitFrom (s .lift) c a)
-      bit-step b c a j d =
-          let o = edge-over c a j in
-          takes (forward P (checkFrom P b c) (a / P)) next (block (c / P) (a / P)) (a / P) (b / P) (o .shift) (bitFrom P c a) (λ e. d (sym e)) (o .block)
-          (λ i. record { row = c / P; col = a / P; voltage = o .forth i })
+    -- each edge to another column, or row, is such a step
+    pub bit-step : (b c a : ℕ) → Joined (graphOf plan s) c a → b / s .lift ≢ a / s .lift
+        → toColumn (blocksOf plan s) (checkFrom (s .lift) b c) (a / s .lift) ≡ To (bitFrom (s .lift) c a)
+    bit-step b c a j d =
+        let o = edge-over c a j in
+        takes (forward P (checkFrom P b c) (a / P)) (block (c / P) (a / P)) (a / P) (b / P) (o .shift) (bitFrom P c a) (λ e. d (sym e)) (o .block)
+        (λ i. record { row = c / P; col = a / P; voltage = o .forth i })
 
-      pub check-step : (c b a : ℕ) → Joined (graphOf plan s) a b → c / s .lift ≢ a / s .lift
-          → andThen (toRow (blocksOf plan s) (bitFrom (s .lift) c b) (a / s .lift)) next ≡ next (checkFrom (s .lift) b a)
-      check-step c b a j d =
-          let o = edge-over a b j in
-          takes (back P (bitFrom P c b) (a / P)) next (block (a / P) (b / P)) (a / P) (c / P) (o .shift) (checkFrom P b a) (λ e. d (sym e)) (o .block)
-          (λ i. record { row = a / P; col = b / P; voltage = o .back i })
+    pub check-step : (c b a : ℕ) → Joined (graphOf plan s) a b → c / s .lift ≢ a / s .lift
+        → toRow (blocksOf plan s) (bitFrom (s .lift) c b) (a / s .lift) ≡ To (checkFrom (s .lift) b a)
+    check-step c b a j d =
+        let o = edge-over a b j in
+        takes (back P (bitFrom P c b) (a / P)) (block (a / P) (b / P)) (a / P) (c / P) (o .shift) (checkFrom P b a) (λ e. d (sym e)) (o .block)
+        (λ i. record { row = a / P; col = b / P; voltage = o .back i })
+
+-- the number of a root, and of a check or a bit behind the last
+abbrev pub at-0 : Shape → ℕ → ℕ
+at-0 s k = k * s .lift + 0
+
+-- THE ROOTS, come to from the number behind the last
+module _ (plan : List ℤ) (s : Shape) (some-lift : 0 < s .lift) (k : ℕ) where
+  pub root-bit : rootBit (blocksOf plan s) k ≡ bitFrom (s .lift) (at-0 s (s .rows)) (at-0 s k)
+  root-bit =
+      λ i. record {
+        row = sym (block-of (s .lift) some-lift (s .rows) 0 some-lift) i;
+        col = sym (block-of (s .lift) some-lift k 0 some-lift) i;
+        voltage = sym (place-of (s .lift) some-lift k 0 some-lift) i;
+      }
+
+  pub root-check : rootCheck (blocksOf plan s) k ≡ checkFrom (s .lift) (at-0 s (s .cols)) (at-0 s k)
+  root-check =
+      λ i. record {
+        row = sym (block-of (s .lift) some-lift k 0 some-lift) i;
+        col = sym (block-of (s .lift) some-lift (s .cols) 0 some-lift) i;
+        voltage = sym (place-of (s .lift) some-lift k 0 some-lift) i;
+      }

@@ -1,41 +1,44 @@
--- The laws of a search loop: what is left of its range, where a turn stays, steps on or finds a walk, and where it may skip.
+-- The laws of a search loop: what is left of its ways, where a turn stays, steps on or meets, and where it may skip.
 -- Assumes nothing.
 use Prim.Native.Nat.{ℕ, zero, suc, _+_, _-_, _≤_, _<_}
 use mathlib.Core.Path.{_≡_, refl, sym, ap, subst, _∙_}
+use mathlib.Core.Bool.{Bool, true, false, cond}
+use mathlib.Core.List.{List, [], _∷_, _++_, map}
 use mathlib.Core.Option.{none, some}
 use native.Mathlib.Omega.{arith}
-use native.Mathlib.Nat.{sub-zero}
 use native.Mathlib.Numerals.{add-one}
+use borrow.Author.Tests.{eq-eqb, ne-eqb}
+use lib.Dec.{eqb}
+use lib.ListN.{set, getD}
 use Rattle.exponent.specs.declared.position.Position.{Position}
 use Rattle.walks.specs.declared.Step.{Step}
 use Rattle.walks.specs.declared.Step.the-variants.{Stay, To}
-use Rattle.walks.specs.declared.trail.Found.the-variants.{Nothing, Closed}
+use Rattle.walks.specs.declared.trail.Found.{Found}
+use Rattle.walks.specs.declared.trail.Found.the-variants.{Nothing, Met}
 use Rattle.walks.specs.declared.trail.Trail.{Trail}
-use Rattle.walks.specs.Search.{Joint, Result, orElse, andThen, after, firstOf, push, trail, found}
+use Rattle.walks.specs.Ways.{Joint, Way, more, andThen, each}
+use Rattle.walks.specs.Meeting.{Result}
+use Rattle.walks.specs.Trail.{lay, push, noTrail, trail, found}
+use Rattle.walks.specs.Stamps.{Run, scan, Ran}
 
 -- What the code shows of a result.
 
-pub differ : {C : Type 0} (t : Trail) → Nothing ≡ Closed t → C
+pub differ : {C : Type 0} (t : Trail) → Nothing ≡ Met t → C
 differ t e = absurd (let z : _≡_ {A = ℕ} 0 1 = cc in omega arith)
 
-pub same-trail : (t u : Trail) → Closed t ≡ Closed u → t ≡ u
+pub same-trail : (t u : Trail) → Met t ≡ Met u → t ≡ u
 same-trail t u e = cc
 
-pub found-none : (r : Result) → found r ≡ Nothing → r ≡ none
+pub found-none : (r : Result) → Nothing ≡ found r → r ≡ none
 found-none none e = refl
-found-none (some l) e = differ (trail l) (sym e)
+found-none (some w) e = differ (trail w) e
 
-hit : (r x : Result) (t : Trail) → found r ≡ Closed t → found (orElse r x) ≡ Closed t
-hit none x t h = differ t h
-hit (some l) x t h = h
+pub found-some : (r : Result) (t : Trail) → Met t ≡ found r → (w : Way) × (r ≡ some w) × (t ≡ trail w)
+found-some none t e = differ t (sym e)
+found-some (some w) t e = (w, refl, same-trail t (trail w) e)
 
-pub after-nothing : (e : Joint) (r : Result) → found r ≡ Nothing → found (after e r) ≡ Nothing
-after-nothing e r h = ap (λ (x : Result). found (after e x)) (found-none r h)
-
-pub after-closed : (e : Joint) (r : Result) (t : Trail) → found r ≡ Closed t → found (after e r) ≡ Closed (push (e .check) (e .bit) t)
-unfolding trail
-after-closed e none t h = differ t h
-after-closed e (some l) t h = ap (λ (u : Trail). Closed (push (e .check) (e .bit) u)) (same-trail (trail l) t h)
+pub ran-shown : {stamp : ℕ} {l : List Way} {before after : List ℕ} {r r′ : Found} → r ≡ r′ → Ran stamp l before r after → Ran stamp l before r′ after
+ran-shown e h = record { shown = sym e ∙ h .shown; left = h .left }
 
 -- A range, one turn on, and at its end.
 
@@ -45,50 +48,121 @@ one-less n i h = omega arith
 pub none-left : (n i : ℕ) → n ≤ i → n - i ≡ 0
 none-left n i h = omega arith
 
--- A search, `whole`, that takes the steps of a range and goes on from each: it is what is left of it from i on.
+-- A run over more ways: what it met stays met, and else it goes on with the stamps that it has left.
 
-pub record Left (whole : Result) (step : ℕ → Step) (next : Position → Result) (n i : ℕ) : Type 0 where
-  pub same : whole ≡ firstOf (λ k. andThen (step k) next) (n - i) i
+abbrev pub goOn : Result → List ℕ → (List ℕ → Run) → Run
+goOn none s f = f s
+goOn (some w) s f = record { hit = some w; seen = s }
 
-pub left-start : (step : ℕ → Step) (next : Position → Result) (n : ℕ) → Left (firstOf (λ k. andThen (step k) next) n 0) step next n 0
-left-start step next n = record { same = ap (λ (k : ℕ). firstOf (λ k. andThen (step k) next) k 0) (sym (sub-zero n)) }
+pub scan-append : (stamp : ℕ) (l m : List Way) (seen : List ℕ) → scan stamp (l ++ m) seen ≡ goOn (scan stamp l seen .hit) (scan stamp l seen .seen) (scan stamp m)
+unfolding scan
+scan-append stamp [] m seen = refl
+scan-append stamp (w ∷ l) m seen =
+    go (eqb (getD seen (w .end) 0) stamp) (scan stamp (l ++ m) (set seen (w .end) stamp)) (scan stamp l (set seen (w .end) stamp)) (scan-append stamp l m (set seen (w .end) stamp))
+  where
+    go : (t : Bool) (a b : Run) → a ≡ goOn (b .hit) (b .seen) (scan stamp m)
+        → cond t (record { hit = some w; seen = seen }) a ≡ goOn (cond t (record { hit = some w; seen = seen }) b .hit) (cond t (record { hit = some w; seen = seen }) b .seen) (scan stamp m)
+    go true a b e = refl
+    go false a b e = e
 
-module _ {whole : Result} {step : ℕ → Step} {next : Position → Result} {n i : ℕ} (left : Left whole step next n i) where
-  abbrev rest : Result
-  rest = firstOf (λ k. andThen (step k) next) (n - (i + 1)) (i + 1)
+-- the same with a check and a bit in front of each
+abbrev pub after : Joint → Result → Result
+after e none = none
+after e (some w) = some (more e w)
 
-  turn : i < n → whole ≡ orElse (andThen (step i) next) rest
-  unfolding firstOf
+pub scan-more : (stamp : ℕ) (e : Joint) (l : List Way) (seen : List ℕ)
+    → scan stamp (map (more e) l) seen ≡ record { hit = after e (scan stamp l seen .hit); seen = scan stamp l seen .seen }
+unfolding scan
+scan-more stamp e [] seen = refl
+scan-more stamp e (w ∷ l) seen =
+    go (eqb (getD seen (w .end) 0) stamp) (scan stamp (map (more e) l) (set seen (w .end) stamp)) (scan stamp l (set seen (w .end) stamp)) (scan-more stamp e l (set seen (w .end) stamp))
+  where
+    go : (t : Bool) (a b : Run) → a ≡ record { hit = after e (b .hit); seen = b .seen }
+        → cond t (record { hit = some (more e w); seen = seen }) a ≡ record { hit = after e (cond t (record { hit = some w; seen = seen }) b .hit); seen = cond t (record { hit = some w; seen = seen }) b .seen }
+    go true a b h = refl
+    go false a b h = h
+
+module _ {stamp : ℕ} {l : List Way} {seen seen′ : List ℕ} (e : Joint) where
+  pub more-nothing : Ran stamp l seen Nothing seen′ → Ran stamp (map (more e) l) seen Nothing seen′
+  more-nothing r =
+      record {
+        shown = sym (ap (λ (x : Run). found (x .hit)) (scan-more stamp e l seen) ∙ ap (λ (x : Result). found (after e x)) (found-none (scan stamp l seen .hit) (r .shown)));
+        left = r .left ∙ sym (ap (λ (x : Run). x .seen) (scan-more stamp e l seen));
+      }
+
+  pub more-met : {t : Trail} → Ran stamp l seen (Met t) seen′ → Ran stamp (map (more e) l) seen (Met (push (e .check) (e .bit) t)) seen′
+  unfolding lay
+  more-met {t} r =
+      let (w, h, k) = found-some (scan stamp l seen .hit) t (r .shown) in
+      record {
+        shown = ap (λ (u : Trail). Met (push (e .check) (e .bit) u)) k ∙ sym (ap (λ (x : Run). found (x .hit)) (scan-more stamp e l seen) ∙ ap (λ (x : Result). found (after e x)) h);
+        left = r .left ∙ sym (ap (λ (x : Run). x .seen) (scan-more stamp e l seen));
+      }
+
+-- At the end of a way: the bit bears the stamp, or it is stamped.
+module _ (stamp b : ℕ) (seen : List ℕ) where
+  pub arrive-met : getD seen b 0 ≡ stamp → Ran stamp (record { joints = []; end = b } ∷ []) seen (Met (noTrail b)) seen
+  unfolding scan lay
+  arrive-met e = let t = eq-eqb (getD seen b 0) stamp e in record { shown = rw t; left = rw t }
+
+  pub arrive-new : (getD seen b 0 ≡ stamp → ⊥) → Ran stamp (record { joints = []; end = b } ∷ []) seen Nothing (set seen b stamp)
+  unfolding scan
+  arrive-new e = let t = ne-eqb (getD seen b 0) stamp e in record { shown = rw t; left = rw t }
+
+-- A search, `whole`, that takes the steps of a range and goes on from each: it is what is left of it from i on, with the stamps so far.
+
+pub record Left (stamp : ℕ) (whole : List Way) (seen₀ : List ℕ) (step : ℕ → Step) (next : Position → List Way) (n i : ℕ) (seen : List ℕ) : Type 0 where
+  pub same : scan stamp whole seen₀ ≡ scan stamp (each (λ k. andThen (step k) next) (n - i) i) seen
+
+pub left-start : (stamp : ℕ) (step : ℕ → Step) (next : Position → List Way) (n i : ℕ) (seen : List ℕ) → Left stamp (each (λ k. andThen (step k) next) (n - i) i) seen step next n i seen
+left-start stamp step next n i seen = record { same = refl }
+
+module _ {stamp : ℕ} {whole : List Way} {seen₀ : List ℕ} {step : ℕ → Step} {next : Position → List Way} {n i : ℕ} {seen : List ℕ} (left : Left stamp whole seen₀ step next n i seen) where
+  abbrev rest : List Way
+  rest = each (λ k. andThen (step k) next) (n - (i + 1)) (i + 1)
+
+  turn : i < n → scan stamp whole seen₀ ≡ scan stamp (andThen (step i) next ++ rest) seen
+  unfolding each
   turn h =
       left .same
-      ∙ ap (λ (k : ℕ). firstOf (λ k. andThen (step k) next) k i) (one-less n i h)
-      ∙ ap (λ (k : ℕ). orElse (andThen (step i) next) (firstOf (λ k. andThen (step k) next) (n - (i + 1)) k)) (sym (add-one i))
-
-  miss : i < n → andThen (step i) next ≡ none → Left whole step next n (i + 1)
-  miss h e = record { same = turn h ∙ ap (λ (r : Result). orElse r rest) e }
+      ∙ ap (λ (k : ℕ). scan stamp (each (λ k. andThen (step k) next) k i) seen) (one-less n i h)
+      ∙ ap (λ (k : ℕ). scan stamp (andThen (step i) next ++ each (λ k. andThen (step k) next) (n - (i + 1)) k) seen) (sym (add-one i))
 
   -- the step is not taken
-  pub left-stay : i < n → step i ≡ Stay → Left whole step next n (i + 1)
-  left-stay h e = miss h (ap (λ (s : Step). andThen s next) e)
+  pub left-stay : i < n → step i ≡ Stay → Left stamp whole seen₀ step next n (i + 1) seen
+  left-stay h e = record { same = turn h ∙ ap (λ (s : Step). scan stamp (andThen s next ++ rest) seen) e }
+
+  went : {q : Position} → i < n → step i ≡ To q → scan stamp whole seen₀ ≡ goOn (scan stamp (next q) seen .hit) (scan stamp (next q) seen .seen) (scan stamp rest)
+  went {q} h e = turn h ∙ ap (λ (s : Step). scan stamp (andThen s next ++ rest) seen) e ∙ scan-append stamp (next q) rest seen
 
   -- it is taken in vain
-  pub left-miss : {q : Position} → i < n → step i ≡ To q → found (next q) ≡ Nothing → Left whole step next n (i + 1)
-  left-miss {q} h e m = miss h (ap (λ (s : Step). andThen s next) e ∙ found-none (next q) m)
+  pub left-miss : {q : Position} {seen′ : List ℕ} → i < n → step i ≡ To q → Ran stamp (next q) seen Nothing seen′ → Left stamp whole seen₀ step next n (i + 1) seen′
+  left-miss {q} h e r =
+      record {
+        same = went h e ∙ ap (λ (x : Result). goOn x (scan stamp (next q) seen .seen) (scan stamp rest)) (found-none (scan stamp (next q) seen .hit) (r .shown)) ∙ ap (scan stamp rest) (sym (r .left));
+      }
 
-  -- it leads to a closed walk
-  pub left-hit : {q : Position} {t : Trail} → i < n → step i ≡ To q → found (next q) ≡ Closed t → Closed t ≡ found whole
-  left-hit {q} {t} h e m =
-      sym (ap found (turn h) ∙ hit (andThen (step i) next) rest t (ap (λ (s : Step). found (andThen s next)) e ∙ m))
+  -- it leads to a bit that bears the stamp
+  pub left-hit : {q : Position} {t : Trail} {seen′ : List ℕ} → i < n → step i ≡ To q → Ran stamp (next q) seen (Met t) seen′ → Ran stamp whole seen₀ (Met t) seen′
+  left-hit {q} {t} h e r =
+      let (w, k, m) = found-some (scan stamp (next q) seen .hit) t (r .shown) in
+      let same = went h e ∙ ap (λ (x : Result). goOn x (scan stamp (next q) seen .seen) (scan stamp rest)) k in
+      record {
+        shown = ap Met m ∙ sym (ap (λ (x : Run). found (x .hit)) same);
+        left = r .left ∙ sym (ap (λ (x : Run). x .seen) same);
+      }
 
   -- the range has an end
-  pub left-end : n ≤ i → Nothing ≡ found whole
-  unfolding firstOf
-  left-end h = sym (ap found (left .same ∙ ap (λ (k : ℕ). firstOf (λ k. andThen (step k) next) k i) (none-left n i h)))
+  pub left-end : n ≤ i → Ran stamp whole seen₀ Nothing seen
+  unfolding each scan
+  left-end h =
+      let same = left .same ∙ ap (λ (k : ℕ). scan stamp (each (λ k. andThen (step k) next) k i) seen) (none-left n i h) in
+      record { shown = sym (ap (λ (x : Run). found (x .hit)) same); left = sym (ap (λ (x : Run). x .seen) same) }
 
 -- Where no step is taken from i to m − 1, the search goes on at m.
-module _ {whole : Result} {step : ℕ → Step} {next : Position → Result} {n : ℕ} where
-  pub skip-by : (d i : ℕ) → i + d ≤ n → ((k : ℕ) → i ≤ k → k < i + d → step k ≡ Stay) → Left whole step next n i → Left whole step next n (i + d)
-  skip-by zero i h e l = subst (Left whole step next n) (let z : i ≡ i + 0 = omega arith in z) l
+module _ {stamp : ℕ} {whole : List Way} {seen₀ : List ℕ} {step : ℕ → Step} {next : Position → List Way} {n : ℕ} {seen : List ℕ} where
+  pub skip-by : (d i : ℕ) → i + d ≤ n → ((k : ℕ) → i ≤ k → k < i + d → step k ≡ Stay) → Left stamp whole seen₀ step next n i seen → Left stamp whole seen₀ step next n (i + d) seen
+  skip-by zero i h e l = subst (λ (k : ℕ). Left stamp whole seen₀ step next n k seen) (let z : i ≡ i + 0 = omega arith in z) l
   skip-by (suc d) i h e l =
-      subst (Left whole step next n) (let z : i + 1 + d ≡ i + suc d = omega arith in z)
+      subst (λ (k : ℕ). Left stamp whole seen₀ step next n k seen) (let z : i + 1 + d ≡ i + suc d = omega arith in z)
       (skip-by d (i + 1) (omega arith) (λ k a b. e k (omega arith) (omega arith)) (left-stay l (omega arith) (e i (omega arith) (omega arith))))

@@ -1,9 +1,8 @@
--- Where a step of the search lands, whether the last check closes a walk, and each search as its loop finds it. Assumes nothing.
+-- Where a step of the search lands, and each search as its loop finds it. Assumes nothing.
 use Prim.Native.Nat.{ℕ, zero, suc, _+_, _-_, _*_, _≤_, _<_}
 use mathlib.Core.Path.{_≡_, refl, subst}
 use mathlib.Core.Bool.{Bool, true, false, true≢false}
-use mathlib.Core.List.{List}
-use mathlib.Core.Option.{none}
+use mathlib.Core.List.{List, [], _∷_, map}
 use native.Mathlib.Omega.{arith}
 use native.Mathlib.Nat.{mod-lt}
 use lib.Dec.{eqb}
@@ -15,11 +14,13 @@ use Rattle.exponent.specs.declared.Shape.{Shape}
 use Rattle.exponent.specs.Plan.{blockAt, filled}
 use Rattle.exponent.specs.Position.{forward, back}
 use Rattle.exponent.proofs.Numbers.{number-low}
+use Rattle.walks.specs.declared.Corner.{Corner}
 use Rattle.walks.specs.declared.Step.the-variants.{Stay, To}
-use Rattle.walks.specs.declared.trail.Found.the-variants.{Nothing, Closed}
 use Rattle.walks.specs.declared.trail.Trail.{Trail}
-use Rattle.walks.specs.Search.{Blocks, blocksOf, over, unless, toColumn, toRow, Joint, Result, after, joint, push, noTrail, trail, found, AtCheck, AtBit}
-use Rattle.walks.specs.Search.{atBit, home, closing, atCheck, origin, closedWalk}
+use Rattle.walks.specs.Steps.{Blocks, blocksOf, over, unless, toColumn, toRow, AtCheck, AtBit}
+use Rattle.walks.specs.Ways.{Way, more, joint}
+use Rattle.walks.specs.Trail.{push}
+use Rattle.walks.specs.Ways.{arrived, fromCheck, fromBit}
 use Rattle.walks.proofs.Loops.{Left, left-start}
 
 -- (i, j) has a place in a list of R rows of C
@@ -31,7 +32,7 @@ listed {R} {C} {i = i} {j = j} h p q = omega (arith, number-low i j R C p q)
 apart : {C : Type 0} (q : Position) → Stay ≡ To q → C
 apart q e = absurd (let z : _≡_ {A = ℕ} 0 1 = cc in omega arith)
 
-lands : (Q : Position → Type 0) (t : Bool) (b : Block) (f : ℕ → Position) → ((e : ℕ) → Q (f e)) → {q : Position} → unless t (over b f) ≡ To q → Q q
+pub lands : (Q : Position → Type 0) (t : Bool) (b : Block) (f : ℕ → Position) → ((e : ℕ) → Q (f e)) → {q : Position} → unless t (over b f) ≡ To q → Q q
 lands Q true b f h {q} e = apart q e
 lands Q false Zero f h {q} e = apart q e
 lands Q false (Shift x) f h {q} e = subst Q (let z : f x ≡ q = cc in z) (h x)
@@ -54,56 +55,30 @@ module _ {plan : List ℤ} {s : Shape} {p : Position} where
       lands (AtCheck plan s) (eqb i (p .row)) (blockAt plan (s .cols) (s .lift) i (p .col)) (back (s .lift) p i)
       (λ x. record { formed = a .formed; row = h; voltage = mod-lt (p .voltage + (s .lift - x)) (a .formed .some-lift) }) e
 
--- At the last check.
-
-home-not : (n : ℕ) (e : Joint) → (n ≡ 0 → ⊥) → home n e ≡ none
-home-not zero e h = absurd (h refl)
-home-not (suc n) e h = refl
-
-module _ (B : Blocks) (start : ℕ) (p : Position) where
-  pub no-join : toColumn B p start ≡ Stay → Nothing ≡ found (closing B start p)
-  no-join h = rw h
-
-  pub closes : {q : Position} → toColumn B p start ≡ To q → q .voltage ≡ 0
-      → Closed (push (p .row * B .lift + p .voltage) (q .col * B .lift + q .voltage) noTrail) ≡ found (closing B start p)
-  unfolding trail
-  closes h z = rw (h, z)
-
-  pub stays-open : {q : Position} → toColumn B p start ≡ To q → (q .voltage ≡ 0 → ⊥) → Nothing ≡ found (closing B start p)
-  stays-open {q} h z = rw (h, home-not (q .voltage) (joint B p q) z)
-
 pub push-same : {c c′ b b′ : ℕ} {t t′ : Trail} → c ≡ c′ → b ≡ b′ → t ≡ t′ → push c b t ≡ push c′ b′ t′
 push-same p q r = λ i. push (p i) (q i) (r i)
 
--- What is left of each search: at a bit, at a check, and from each column.
+-- What is left of each search: at a bit, and at a check.
 
-abbrev pub onward : Blocks → ℕ → ℕ → Position → Position → Result
-onward B start d p q = after (joint B p q) (atBit B (atCheck B start d) q)
+abbrev pub onward : Blocks → Corner → ℕ → Position → Position → List Way
+onward B k d p q = map (more (joint B p q)) (fromBit B k d q)
 
-module _ (B : Blocks) (start d : ℕ) (p : Position) where
-  abbrev pub BitLeft : ℕ → Type 0
-  BitLeft = Left (atBit B (atCheck B start d) p) (toRow B p) (atCheck B start d) (B .rows)
+module _ (B : Blocks) (k : Corner) (stamp d : ℕ) (p : Position) (seen₀ : List ℕ) where
+  abbrev pub BitLeft : ℕ → List ℕ → Type 0
+  BitLeft = Left stamp (fromBit B k d p) seen₀ (toRow B p) (fromCheck B k (fromBit B k (d - 1))) (B .rows)
 
-  pub at-bit-left : BitLeft 0
-  at-bit-left = left-start (toRow B p) (atCheck B start d) (B .rows)
+  abbrev pub CheckLeft : ℕ → List ℕ → Type 0
+  CheckLeft = Left stamp (fromCheck B k (fromBit B k d) p) seen₀ (toColumn B p) (onward B k d p) (B .cols)
 
-  abbrev pub CheckLeft : ℕ → Type 0
-  CheckLeft = Left (atCheck B start d p) (toColumn B p) (onward B start (d - 1) p) (B .cols)
+  pub at-check-left : CheckLeft (k .col) seen₀
+  at-check-left = left-start stamp (toColumn B p) (onward B k d p) (B .cols) (k .col) seen₀
 
-  pub at-last : d ≡ 0 → closing B start p ≡ atCheck B start d p
-  unfolding atCheck
-  at-last e = rw e
+  pub at-end : d ≡ 0 → arrived B p ∷ [] ≡ fromBit B k d p
+  unfolding fromBit
+  at-end e = rw e
 
-pub at-check-left : (B : Blocks) (start d : ℕ) (p : Position) → (d ≡ 0 → ⊥) → CheckLeft B start d p start
-unfolding atCheck
-at-check-left B start zero p h = absurd (h refl)
-at-check-left B start (suc d) p h = record { same = let e : suc d - 1 ≡ d = omega arith in rw e }
-
--- a walk from (j, 0) is the search at that bit
-module _ (B : Blocks) (n : ℕ) where
-  abbrev pub WalkLeft : ℕ → Type 0
-  WalkLeft = Left (closedWalk B n) (λ j. To (origin B j)) (λ q. atBit B (atCheck B (q .col) (n - 1)) q) (B .cols)
-
-  pub walk-left : WalkLeft 0
-  unfolding closedWalk
-  walk-left = left-start (λ j. To (origin B j)) (λ q. atBit B (atCheck B (q .col) (n - 1)) q) (B .cols)
+pub at-bit-left : (B : Blocks) (k : Corner) (stamp d : ℕ) (p : Position) (seen₀ : List ℕ) → (d ≡ 0 → ⊥) → BitLeft B k stamp d p seen₀ (k .row) seen₀
+unfolding fromBit
+at-bit-left B k stamp zero p seen₀ h = absurd (h refl)
+at-bit-left B k stamp (suc d) p seen₀ h =
+    let e : suc d - 1 ≡ d = omega arith in rw e (left-start stamp (toRow B p) (fromCheck B k (fromBit B k d)) (B .rows) (k .row) seen₀)

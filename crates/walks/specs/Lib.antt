@@ -1,1 +1,6 @@
-pub mod Search
+pub mod Steps
+pub mod Ways
+pub mod Meeting
+pub mod Trail
+pub mod Stamps
+pub mod Calls

@@ -1,20 +1,29 @@
-// Closed walks in the Tanner graph of a plan: the steps of a search for them, and its model (specs/Search.antt).
+// The search for short cycles in the Tanner graph of a plan: two ways of n edges that meet (specs/Meeting.antt is its model).
 use exponent::Shape;
 use exponent::block;
 use exponent::block::Block;
 use exponent::position::Position;
-use trail::Found;
-use trail::Trail;
 ghost use mathlib.Core.Path.{_≡_};
 ghost use Prim.Native.Nat.{_+_, _*_, _<_, _≤_};
-ghost use Rattle.walks.specs.Search.{AtCheck, AtBit, blocksOf, toColumn, toRow, closing, found};
+ghost use Rattle.walks.specs.Steps.{AtCheck, AtBit, blocksOf, toColumn, toRow};
 
-pub mod trail; // trail.rt: the checks and bits of a closed walk
+pub mod trail; // trail.rt: the checks and bits of a way, and two ways joined
+mod search; // search.rt: all ways on from a bit or a check, by two functions that call each other
+pub mod meet; // meet.rt: two ways of n edges from one root that meet
+
+// A stamp for each bit.
+pub const STAMPS: usize = 65536;
 
 // A step of a walk: not taken, or to a position.
 pub enum Step {
     Stay,
     To(Position),
+}
+
+// The lowest row and the lowest column that a search enters.
+pub struct Corner {
+    pub row: usize,
+    pub col: usize,
 }
 
 // The number of a check or a bit.
@@ -54,25 +63,5 @@ pub fn to_row(plan: &[i16], shape: Shape, p: Position, row: usize) -> Step
         Block::Zero => Step::Stay,
         Block::Shift(e) => Step::To(p.back(row, e, shape.lift)),
         Block::Invalid => Step::Stay,
-    }
-}
-
-// Whether the last check joins the bit (start, 0).
-pub fn close(plan: &[i16], shape: Shape, start: usize, p: Position) -> Found
-    requires { ⌜ AtCheck (now plan) shape p × (start < shape .cols) ⌝ }
-    ensures { λ r. ⌜ r ≡ found (closing (blocksOf (now (plan .entry)) shape) start p) ⌝ }
-{
-    let step = to_column(plan, shape, p, start);
-    match step {
-        Step::Stay => Found::Nothing,
-        Step::To(q) => {
-            if q.voltage == 0 {
-                let check = number(p.row, shape.lift, p.voltage);
-                let bit = number(q.col, shape.lift, q.voltage);
-                Found::Closed(Trail::empty().push(check, bit))
-            } else {
-                Found::Nothing
-            }
-        }
     }
 }

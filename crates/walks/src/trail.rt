@@ -1,8 +1,14 @@
 ghost use mathlib.Core.Path.{_≡_};
-ghost use Rattle.walks.specs.Search.{push, noTrail};
+ghost use Prim.Native.Nat.{_/_};
+ghost use Rattle.walks.specs.Ways.{odd};
+ghost use Rattle.walks.specs.Trail.{push, pop, noTrail, backTrail, joinTrail};
 
-// The checks and the bits of a closed walk, 0 in the places not used.
+// The places for checks, and for bits.
+pub const PLACES: usize = 5;
+
+// A way: the bit at its end, its checks, and the bit after each; 0 in the places not used.
 pub struct Trail {
+    pub end: usize,
     pub c0: usize,
     pub c1: usize,
     pub c2: usize,
@@ -18,14 +24,16 @@ pub struct Trail {
 // What a search finds.
 pub enum Found {
     Nothing,
-    Closed(Trail),
+    Met(Trail),
 }
 
 impl Trail {
-    pub fn empty() -> Trail
-        ensures { λ r. ⌜ r ≡ noTrail ⌝ }
+    // A way of no checks.
+    pub fn empty(end: usize) -> Trail
+        ensures { λ r. ⌜ r ≡ noTrail end ⌝ }
     {
         Trail {
+            end,
             c0: 0,
             c1: 0,
             c2: 0,
@@ -44,6 +52,7 @@ impl Trail {
         ensures { λ r. ⌜ r ≡ push check bit self ⌝ }
     {
         Trail {
+            end: self.end,
             c0: check,
             c1: self.c0,
             c2: self.c1,
@@ -56,4 +65,51 @@ impl Trail {
             b4: self.b3,
         }
     }
+
+    // The first check and bit left out.
+    pub fn pop(self) -> Trail
+        ensures { λ r. ⌜ r ≡ pop self ⌝ }
+    {
+        Trail {
+            end: self.end,
+            c0: self.c1,
+            c1: self.c2,
+            c2: self.c3,
+            c3: self.c4,
+            c4: 0,
+            b0: self.b1,
+            b1: self.b2,
+            b2: self.b3,
+            b3: self.b4,
+            b4: 0,
+        }
+    }
+}
+
+// Back along the d checks of way w to the bit z where it began, and on along another.
+fn back_along(d: usize, z: usize, w: Trail, on: Trail) -> Trail
+    ensures { λ r. ⌜ r ≡ backTrail d z w on ⌝ }
+{
+    let mut left = d;
+    let mut bit = z;
+    let mut rest = w;
+    let mut trail = on;
+    while 0 < left {
+        left -= 1;
+        trail = trail.push(rest.c0, bit);
+        bit = rest.b0;
+        rest = rest.pop();
+    }
+    trail
+}
+
+// The cycle of two ways of n edges from one root; z is its number where it is a bit.
+pub fn join(n: usize, z: usize, w: Trail, on: Trail) -> Trail
+    ensures { λ r. ⌜ r ≡ joinTrail (odd n) (n / 2) z w on ⌝ }
+{
+    let d = n / 2;
+    if n % 2 == 1 {
+        return back_along(d, w.b0, w.pop(), on);
+    }
+    back_along(d, z, w, on)
 }

@@ -35,7 +35,7 @@ is-allowed-requires c κs = search needs
 test-valid-requires : tie.Need-test-valid-requires
 test-valid-requires c κs =
     let r = allowed-rounds _ (sym (c .before .is-allowed .ensures) ∙ c .if1 .taken) in
-    (accepted _ _ _ _ .0 (valid (c .before .before)), omega (arith, r .fits, r .even))
+    (accepted _ _ _ _ .0 (valid (c .before .before)), omega (arith, r .fits))
 
 without-witness-requires-2 : tie.Need-without-witness-requires-2
 without-witness-requires-2 c κs = search needs
