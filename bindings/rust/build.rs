@@ -1,5 +1,5 @@
 //! Links libqcldpc.a, from the folder QCLDPC_LIB_DIR, or from where `rt staticlib qcldpc` writes it. A benchmark also finds the C
-//! loop that `bindings/rust/run` makes for it.
+//! code that `bindings/rust/run` makes for it.
 use std::env;
 use std::path::{Path, PathBuf};
 

@@ -1,12 +1,50 @@
-//! Times the proved girth test on the cyclic table plan of order 7 at lift 28 (147 rows, 343 columns) and target 12, beside a
-//! plain Rust search over sparse adjacency lists. Both get the plan as numbers and build their own index of it; once with the
-//! voltages below the lift, and once with the same plan's voltages above it.
+//! Times the proved girth test at target 12 beside two plain references. On cyclic table plans: a search of closed walks over
+//! sparse lists, in Rust, which is what the library had before; and the library's own search, of two ways that meet halfway,
+//! in C (bindings/c/halfway.c). On the slowest plans that were found: the latter alone. Each takes the plan as numbers and
+//! builds its own lists of it.
 mod common;
 
-use common::{cyclic_plan, printed, shift, timed, OwnedPlan};
+use common::{cyclic_plan, printed, shift, OwnedPlan};
 use qcldpc::Girth;
 use std::hint::black_box;
-use std::time::Duration;
+use std::time::Instant;
+
+const TARGET: usize = 12;
+
+#[link(name = "plain_halfway", kind = "static")]
+extern "C" {
+    fn plain_halfway(
+        plan: *const i16,
+        rows: usize,
+        cols: usize,
+        lift: usize,
+        target: usize,
+        checks: *mut usize,
+        bits: *mut usize,
+    ) -> u32;
+}
+
+fn proved(plan: &OwnedPlan) -> Girth {
+    qcldpc::girth(&plan.lent(), TARGET).expect("a plan that is not refused")
+}
+
+fn halfway(plan: &OwnedPlan) -> Girth {
+    common::judge(plan).expect("a plan that is not refused");
+    let OwnedPlan { entries, rows, cols, lift } = plan;
+    let (mut checks, mut bits) = ([0; 5], [0; 5]);
+    // SAFETY: the plan is valid, and a shown cycle has at most 5 checks and bits. No other thread calls the function.
+    let n = unsafe {
+        plain_halfway(entries.as_ptr(), *rows, *cols, *lift, TARGET, checks.as_mut_ptr(), bits.as_mut_ptr()) as usize
+    };
+    answer(checks[..n].to_vec(), bits[..n].to_vec())
+}
+
+fn answer(checks: Vec<usize>, bits: Vec<usize>) -> Girth {
+    match checks.len() {
+        0 => Girth::Passed,
+        _ => Girth::Failed { checks, bits },
+    }
+}
 
 // The filled blocks of each row (its columns, with their shifts) and of each column (its rows).
 struct Sparse {
@@ -68,36 +106,152 @@ fn at_check(g: &Sparse, start: usize, depth: usize, row: usize, from: usize, v: 
     false
 }
 
-// The reference: n of a shortest closed walk below the target, or 0.
-fn reference(plan: &OwnedPlan, target: usize) -> usize {
+// A shortest closed walk below the target, from the bits at voltage 0; a path holds its checks and bits from the last on.
+fn closed_walks(plan: &OwnedPlan) -> Girth {
     let g = sparse(plan);
-    for n in 2..target / 2 {
+    for n in 2..TARGET / 2 {
         for start in 0..plan.cols {
             let mut path = vec![];
             if at_bit(&g, start, n - 1, start, usize::MAX, 0, &mut path) {
-                return n;
+                let (checks, bits) = path.into_iter().rev().unzip();
+                return answer(checks, bits);
             }
         }
     }
-    0
+    Girth::Passed
 }
 
-// Both in turn, best of 7 each.
-fn beside(name: &str, plan: &OwnedPlan, target: usize) {
-    let (mut ours, mut theirs) = (Duration::MAX, Duration::MAX);
-    for _ in 0..7 {
-        let answer = timed(&mut ours, || qcldpc::girth(&black_box(plan).lent(), target));
-        assert_eq!(answer, Ok(Girth::Passed), "the proved test says that the plan passes");
-        let answer = timed(&mut theirs, || reference(black_box(plan), target));
-        assert_eq!(answer, 0, "the reference says that the plan passes");
+fn joins(plan: &OwnedPlan, check: usize, bit: usize) -> bool {
+    let (i, y, j, z) = (check / plan.lift, check % plan.lift, bit / plan.lift, bit % plan.lift);
+    let e = plan.entries[i * plan.cols + j];
+    e >= 0 && (y + e as usize) % plan.lift == z
+}
+
+// Whether checks and bits are those of a simple cycle of the plan.
+fn is_simple_cycle(plan: &OwnedPlan, checks: &[usize], bits: &[usize]) -> bool {
+    let n = checks.len();
+    let distinct = |list: &[usize]| (1..n).all(|k| !list[..k].contains(&list[k]));
+    let joined = |k: usize| joins(plan, checks[k], bits[k]) && joins(plan, checks[(k + 1) % n], bits[k]);
+    n == bits.len() && n >= 2 && distinct(checks) && distinct(bits) && (0..n).all(joined)
+}
+
+type Search = (&'static str, fn(&OwnedPlan) -> Girth);
+
+const PROVED: Search = ("qcldpc_girth", proved);
+const CLOSED_WALKS: Search = ("closed walks in Rust", closed_walks);
+const HALFWAY: Search = ("halfway in C", halfway);
+
+// The girth that all searches tell; each shows a simple cycle of so many edges, where the plan fails.
+fn agreed(plan: &OwnedPlan, searches: &[Search]) -> Option<usize> {
+    let girth = proved(plan).girth();
+    for (name, search) in searches {
+        let answer = search(plan);
+        assert_eq!(answer.girth(), girth, "{name} tells the same girth");
+        if let Girth::Failed { checks, bits } = &answer {
+            assert!(is_simple_cycle(plan, checks, bits), "{name} shows a simple cycle");
+        }
     }
-    let (ours, theirs) = (ours.as_secs_f64() * 1e3, theirs.as_secs_f64() * 1e3);
-    println!("{name}: qcldpc_girth {ours:.1} ms");
-    println!("  reference {theirs:.1} ms, ratio {:.2}", ours / theirs);
+    girth
+}
+
+// The median times of searches, in seconds, each run in turn so many times.
+fn medians(plan: &OwnedPlan, searches: &[Search], turns: usize) -> Vec<f64> {
+    let mut times = vec![vec![]; searches.len()];
+    for _ in 0..turns {
+        for ((_, search), times) in searches.iter().zip(&mut times) {
+            let begin = Instant::now();
+            black_box(search(black_box(plan)));
+            times.push(begin.elapsed().as_secs_f64());
+        }
+    }
+    let median = |times: &mut Vec<f64>| {
+        times.sort_by(f64::total_cmp);
+        times[turns / 2]
+    };
+    times.iter_mut().map(median).collect()
+}
+
+// Prints the median of each search, and how many times as long the first takes as each other; gives the first's, in seconds.
+fn beside(name: &str, plan: &OwnedPlan, searches: &[Search], turns: usize) -> f64 {
+    let girth = agreed(plan, searches).map_or("12 or more".into(), |girth| girth.to_string());
+    println!("{name}: {} x {}, lift {}, girth {girth}", plan.rows, plan.cols, plan.lift);
+    let times = medians(plan, searches, turns);
+    println!("  {} {:.2} ms", searches[0].0, times[0] * 1e3);
+    for ((name, _), time) in searches.iter().zip(&times).skip(1) {
+        println!("  {name} {:.2} ms, ratio {:.3}", time * 1e3, times[0] / time);
+    }
+    times[0]
+}
+
+// Two last rows that the last 128 columns join at every difference of shifts; before these, columns of one block each, 192 on the
+// one row and 192 on the other; above them 190 rows of one block. From each of the 384 columns four edges lead to most of the
+// bits, and its shortest cycles, of 8 edges, lie in the last columns alone.
+fn grid() -> OwnedPlan {
+    let (rows, cols, lift) = (192, 512, 128);
+    let mut entries = vec![-1; rows * cols];
+    for j in 0..384 {
+        entries[(190 + j / 192) * cols + j] = 0;
+    }
+    for j in 384..cols {
+        entries[190 * cols + j] = 0;
+        entries[191 * cols + j] = (j - 384) as i16;
+    }
+    for i in 0..190 {
+        entries[i * cols + 384 + i % 128] = 0;
+    }
+    OwnedPlan { entries, rows, cols, lift }
+}
+
+// 128 rows of one block, in column 0; 63 rows with a block there and in two columns of their own, which the last row has at the
+// shifts r and -r; it has all columns after these too. From each of the 128 rows five edges lead to nearly all bits, and there is
+// no cycle of 8 edges.
+fn hubs() -> OwnedPlan {
+    let (rows, cols, lift) = (192, 512, 127);
+    let mut entries = vec![-1; rows * cols];
+    for i in 0..191 {
+        entries[i * cols] = 0;
+    }
+    for r in 1..64 {
+        let hub = (127 + r) * cols;
+        entries[hub + 2 * r - 1] = 0;
+        entries[hub + 2 * r] = 0;
+        entries[191 * cols + 2 * r - 1] = r as i16;
+        entries[191 * cols + 2 * r] = (lift - r) as i16;
+    }
+    entries[191 * cols + 127..].fill(0);
+    OwnedPlan { entries, rows, cols, lift }
+}
+
+// 32 rows of one block; in the other 160 every block (i, j) is filled, with the shift i j mod 257, so that two of these rows share
+// 255 columns and no cycle of 4 edges.
+fn plane() -> OwnedPlan {
+    let (rows, cols, lift) = (192, 255, 257);
+    let block = |k: usize| match (k / cols, k % cols) {
+        (i, j) if i < 32 => [-1, 0][(j == i * 7) as usize],
+        (i, j) => ((i - 32) * j % lift) as i16,
+    };
+    OwnedPlan { entries: (0..rows * cols).map(block).collect(), rows, cols, lift }
+}
+
+// A table plan with its last filled block changed, so that it may fail.
+fn changed(plan: &OwnedPlan, by: i16) -> OwnedPlan {
+    let mut plan = plan.clone();
+    let last = plan.entries.iter_mut().rfind(|e| **e >= 0).expect("a filled block");
+    *last += by;
+    plan
 }
 
 fn main() {
-    let plan = cyclic_plan(7, 28, &[1; 49], 7);
-    beside("voltages below the lift", &plan, 12);
-    beside("voltages above the lift", &printed(&plan), 12);
+    let (seven, six) = (cyclic_plan(7, 28, &[1; 49], 7), cyclic_plan(6, 19, &[1; 36], 6));
+    let all = [PROVED, CLOSED_WALKS, HALFWAY];
+    let girths: Vec<_> = (0..19).map(|by| agreed(&changed(&six, by), &all)).collect();
+    assert!(girths.contains(&None) && girths.contains(&Some(8)), "some of these plans pass and some fail");
+    beside("cyclic table, J = 7, voltages below the lift", &seven, &all, 31);
+    beside("cyclic table, J = 7, voltages above the lift", &printed(&seven), &all, 31);
+    beside("cyclic table, J = 6, voltages below the lift", &six, &all, 31);
+    beside("cyclic table, J = 6, voltages above the lift", &printed(&six), &all, 31);
+    let slow = [("slow plan, grid", grid()), ("slow plan, hubs", hubs()), ("slow plan, plane", plane())];
+    let slowest = slow.iter().map(|(name, plan)| beside(name, plan, &[PROVED, HALFWAY], 31)).fold(0.0, f64::max);
+    println!("the slowest plan found takes {slowest:.3} s, of the 3 s allowed");
+    assert!(slowest < 3.0, "each of these plans keeps the limit");
 }

@@ -19,7 +19,7 @@ impl Position {
         Position {
             row: self.row,
             col,
-            voltage: (self.voltage + shift) % lift,
+            voltage: wrap(self.voltage + shift, lift),
         }
     }
 
@@ -31,7 +31,7 @@ impl Position {
         Position {
             row,
             col: self.col,
-            voltage: (self.voltage + (lift - shift)) % lift,
+            voltage: wrap(self.voltage + (lift - shift), lift),
         }
     }
 }

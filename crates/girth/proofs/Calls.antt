@@ -11,19 +11,19 @@ use Rattle.girth.proofs.Rules.{formed}
 use Rattle.girth.proofs.Verdict.{passes-first}
 
 -- what the limits say of the bound: 192 rows, 512 columns, lift 4,096, 65,536 bits
-limited : (s : Shape) (k : ℕ) → s .rows ≤ 192 → s .cols ≤ 512 → s .lift ≤ 4096 → s .cols * s .lift ≤ 65536 → searchBound s k ≤ k * 256000000 + 1000000
+limited : (s : Shape) (k : ℕ) → s .rows ≤ 192 → s .cols ≤ 512 → s .lift ≤ 4096 → s .cols * s .lift ≤ 65536 → searchBound s k ≤ k * 210000000 + 1000000
 unfolding searchBound rootBound
 limited s k few-rows few-cols small-lift few-bits =
     let R = s .rows in
     let C = s .cols in
     let P = s .lift in
-    let X = R * P + 2 * (C * P) + 1 in
+    let X = R * P + C * P + 1 in
     let checks : R * P ≤ 786432 = omega (arith, mul-le-mul-right P few-rows) in
-    let one : X ≤ 917505 = omega arith in
+    let one : X ≤ 851969 = omega arith in
     let rows : R * X ≤ 192 * X = mul-le-mul-right X few-rows in
-    let columns : C * X ≤ 79692288 =
-    omega (arith, mul-add C (R * P + 2 * (C * P)) 1, mul-add C (R * P) (2 * (C * P)), mul-left-comm C R P, mul-le-mul-right (C * P) few-rows, mul-left-comm C 2 (C * P), mul-le-mul-right (C * P) few-cols) in
-    let roots : (R + C) * X ≤ 256000000 = omega (arith, add-mul R C X) in
+    let columns : C * X ≤ 46137856 =
+    omega (arith, mul-add C (R * P + C * P) 1, mul-add C (R * P) (C * P), mul-left-comm C R P, mul-le-mul-right (C * P) few-rows, mul-le-mul-right (C * P) few-cols) in
+    let roots : (R + C) * X ≤ 210000000 = omega (arith, add-mul R C X) in
     omega (arith, add-mul (k * (R + C)) 1 X, mul-assoc k (R + C) X, mul-le-mul-left k roots)
 
 pub always-bounded : AlwaysBounded

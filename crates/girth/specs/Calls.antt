@@ -14,10 +14,10 @@ use Rattle.girth.specs.Test.{testRules}
 abbrev pub rounds : ℕ → ℕ
 rounds target = target / 2 - 2
 
--- The calls are bounded by the plan's sizes; and, whatever the plan, by 256 million for each round and a million.
+-- The calls are bounded by the plan's sizes; and, whatever the plan, by 210 million for each round and a million.
 pub record Bounded (plan : List ℤ) (rows cols lift target : ℕ) : Type 0 where
   pub by-sizes : searchCalls (blocksOf plan (record { rows = rows; cols = cols; lift = lift })) (rounds target) 2 ≤ searchBound (record { rows = rows; cols = cols; lift = lift }) (rounds target)
-  pub by-limits : searchCalls (blocksOf plan (record { rows = rows; cols = cols; lift = lift })) (rounds target) 2 ≤ rounds target * 256000000 + 1000000
+  pub by-limits : searchCalls (blocksOf plan (record { rows = rows; cols = cols; lift = lift })) (rounds target) 2 ≤ rounds target * 210000000 + 1000000
 
 abbrev pub AlwaysBounded : Type 0
 AlwaysBounded = (plan : List ℤ) (rows cols lift target : ℕ) → lowest (testRules plan rows cols lift target) ≡ none → Bounded plan rows cols lift target

@@ -1,15 +1,16 @@
--- Walks from one vertex that are too short to close a cycle: their ends tell them apart, so they are not more than the vertices.
--- Assumes nothing.
+-- Walks from one vertex that are too short to close a cycle: their ends tell them apart, and from the ends of walks of n edges. So both
+-- together are not more than the vertices. Assumes nothing.
 use Prim.Native.Nat.{ℕ, _+_, _*_, _≤_, _<_}
-use mathlib.Core.Path.{_≡_, ap}
-use mathlib.Core.List.{List, [], _∷_, map}
+use mathlib.Core.Path.{_≡_, sym, ap}
+use mathlib.Core.Logic.{_≢_}
+use mathlib.Core.List.{List, [], _∷_, _++_, map}
 use native.Mathlib.Omega.{arith}
-use lib.ListN.{length, length-map}
+use lib.ListN.{length, length-append, length-map}
 use Rattle.graph.specs.Count.{Mem}
 use Rattle.graph.specs.Graph.{Bipartite}
 use Rattle.graph.specs.Girth.{Passes}
 use Rattle.graph.proofs.Count.{few-below}
-use Rattle.graph.proofs.Lists.{Nodup, last, each-image, nodup-image}
+use Rattle.graph.proofs.Lists.{Nodup, last, mem-either, nodup-append, each-image, nodup-image}
 use Rattle.graph.proofs.Walks.{Node, check, bit, Adj, Walk, diverge}
 use Rattle.graph.proofs.Cycles.{passes-none}
 
@@ -45,18 +46,44 @@ module _ (G : Bipartite) where
   last-inside u [] h w = h
   last-inside u (v ∷ l) h w = last-inside v l (adj-inside u v (w .0 .0)) (w .1)
 
-  pub few-walks : (n : ℕ) (u : Node) (L : List (List Node)) → Passes G (2 * n) → Inside u → Nodup L → ((l : List Node) → Mem l L → Walk G (u ∷ l) × (length l < n)) → length L ≤ G .checks + G .bits
-  few-walks n u L passes root d h =
-      omega (
-        arith,
-        length-map L (λ l. number (last u l)),
-        few-below (G .checks + G .bits) (map (λ l. number (last u l)) L) ends
-            (each-image (λ l. number (last u l)) (λ b. b < G .checks + G .bits) L (λ l m. number-below (last u l) (last-inside u l root (h l m .0)))),
-      )
-    where
-      ends : Nodup (map (λ l. number (last u l)) L)
-      ends = nodup-image (λ l. number (last u l)) L d (λ l m i j e differ.
-          let (wl, sl) = h l i in
-          let (wm, sm) = h m j in
-          passes-none G (2 * n) (length l + length m) passes (omega arith)
-          (diverge G u l m wl wm (number-same (last u l) (last u m) (last-inside u l root wl) (last-inside u m root wm) e) differ))
+  -- bit e is the end of a walk of n edges from u
+  pub record Reached (n : ℕ) (u : Node) (e : ℕ) : Type 0 where
+    pub along : List Node
+    pub walk : Walk G (u ∷ along)
+    pub long : length along ≡ n
+    pub ends : last u along ≡ bit e
+
+  -- walks L of fewer than n edges from u, and ends E of walks of n edges
+  module _ (n : ℕ) (u : Node) (L : List (List Node)) (E : List ℕ) (passes : Passes G (2 * n)) (root : Inside u) (short : (l : List Node) → Mem l L → Walk G (u ∷ l) × (length l < n)) (reached : (e : ℕ) → Mem e E → Reached n u e) where
+    abbrev end : List Node → ℕ
+    end l = number (last u l)
+
+    -- two different walks to one vertex would close a cycle that is too short
+    one-way : (l m : List Node) → Walk G (u ∷ l) → Walk G (u ∷ m) → length l + length m < 2 * n → end l ≡ end m → l ≢ m → ⊥
+    one-way l m wl wm few e differ =
+        passes-none G (2 * n) (length l + length m) passes few
+        (diverge G u l m wl wm (number-same (last u l) (last u m) (last-inside u l root wl) (last-inside u m root wm) e) differ)
+
+    ends-apart : Nodup L → Nodup (map end L)
+    ends-apart d = nodup-image end L d (λ l m i j e differ. one-way l m (short l i .0) (short m j .0) (omega (arith, short l i .1, short m j .1)) e differ)
+
+    not-reached : (x : ℕ) → Mem x (map end L) → Mem x E → ⊥
+    not-reached =
+        each-image end (λ x. Mem x E → ⊥) L (λ l m i.
+        let r = reached (end l) i in
+        one-way l (r .along) (short l m .0) (r .walk) (omega (arith, short l m .1, r .long)) (sym (ap number (r .ends))) (λ e. omega (arith, ap length e, short l m .1, r .long)))
+
+    ends-below : (x : ℕ) → Mem x (map end L ++ E) → x < G .checks + G .bits
+    ends-below =
+        mem-either (λ x. x < G .checks + G .bits) (map end L) E
+        (each-image end (λ x. x < G .checks + G .bits) L (λ l m. number-below (last u l) (last-inside u l root (short l m .0))))
+        (λ e m. let r = reached e m in omega (arith, ap number (r .ends), number-below (last u (r .along)) (last-inside u (r .along) root (r .walk))))
+
+    pub few-walks : Nodup L → Nodup E → length L + length E ≤ G .checks + G .bits
+    few-walks d f =
+        omega (
+          arith,
+          length-map L end,
+          length-append (map end L) E,
+          few-below (G .checks + G .bits) (map end L ++ E) (nodup-append (map end L) E (ends-apart d) f not-reached) ends-below,
+        )

@@ -1,7 +1,7 @@
--- The time of the search. From one root: a call before the last depth for each vertex at most, and one at the last depth for each bit
--- at most, and one more. In a whole search: each root of each round once, and the root with the answer twice. Assumes nothing.
-use Prim.Native.Nat.{ℕ, zero, suc, _+_, _-_, _*_, _≤_, _<_}
-use mathlib.Core.Path.{_≡_, refl, sym, _∙_}
+-- The time of the search. From one root: a call for each vertex at most, and one more, for the bit that is met again. In a whole
+-- search: each root of each round once, and the root with the answer twice. Assumes nothing.
+use Prim.Native.Nat.{ℕ, zero, suc, _+_, _*_, _/_, _≤_, _<_}
+use mathlib.Core.Path.{_≡_, refl, sym, subst, _∙_}
 use mathlib.Core.Logic.{inl, inr}
 use mathlib.Core.Bool.{Bool, true, false, cond}
 use mathlib.Core.List.{List, [], _∷_}
@@ -12,6 +12,7 @@ use lib.IntN.{ℤ}
 use lib.ListN.{length}
 use Rattle.graph.specs.Count.{Mem}
 use Rattle.graph.specs.Girth.{Passes}
+use Rattle.graph.proofs.Ends.{Reached}
 use Rattle.graph.proofs.Lists.{Nodup}
 use Rattle.exponent.specs.declared.Shape.{Shape}
 use Rattle.exponent.specs.Tanner.{graphOf}
@@ -19,12 +20,14 @@ use Rattle.walks.specs.Steps.{Blocks, blocksOf}
 use Rattle.walks.specs.Ways.{Way, odd, roots, ways}
 use Rattle.walks.specs.Meeting.{Result, repeat, join, meeting, orElse, firstOf, shortCycle}
 use Rattle.walks.specs.Calls.{run, secondCalls, rootCalls, unlessMet, callsUntil, roundCalls, searchCalls, rootBound, searchBound}
+use Rattle.walks.proofs.Link.{at-0}
 use Rattle.walks.proofs.Growth.{run-calls}
+use Rattle.walks.proofs.Inner.{innerBy}
 use Rattle.walks.proofs.Near.{few-inner}
 use Rattle.walks.proofs.Repeats.{some-mem}
 use Rattle.walks.proofs.Answers.{missed}
 use Rattle.walks.proofs.Missed.{passes-on}
-use Rattle.walks.proofs.Roots.{way-of}
+use Rattle.walks.proofs.Roots.{rootOf, walked}
 use Rattle.walks.proofs.Tallies.{few-stamps}
 
 -- UNTIL AN ANSWER: k turns of Y calls at most, and X more where there is an answer
@@ -57,13 +60,20 @@ module _ (plan : List ℤ) (s : Shape) (some-lift : 0 < s .lift) where
   -- ONE ROOT
 
   module _ (n k : ℕ) (passes : Passes (graphOf plan s) (2 * n)) (root : k < roots (blocksOf plan s) n) where
-    -- the bits that a run stamps, with those stamped beforehand
-    stamped-few : (S : List ℕ) → Nodup S → ((b : ℕ) → Mem b S → b < s .cols * s .lift) → length (run B n k S .stamped) ≤ suc (s .cols * s .lift)
-    stamped-few = few-stamps B n k (s .cols * s .lift) (λ w m. way-of plan s some-lift n k root w m .0)
+    -- n edges lead from the root to bit b
+    abbrev End : ℕ → Type 0
+    End b = Reached (graphOf plan s) n (rootOf (odd n) (at-0 s k)) b
 
-    few-run-calls : (S : List ℕ) → Nodup S → ((b : ℕ) → Mem b S → b < s .cols * s .lift) → run B n k S .calls ≤ rootBound s
+    way-end : (w : Way) → Mem w (ways B n k) → End (w .end)
+    way-end w m = let o = walked plan s some-lift n k root w m in record { along = o .after; walk = o .walk; long = o .long; ends = o .ends }
+
+    -- the calls before the last depth and the bits that a run stamps, with those stamped beforehand
+    stamped-few : (S : List ℕ) → Nodup S → ((b : ℕ) → Mem b S → End b) → length (innerBy (odd n) B (n / 2) k) + length (run B n k S .stamped) ≤ suc (s .rows * s .lift + s .cols * s .lift)
+    stamped-few = few-stamps End (length (innerBy (odd n) B (n / 2) k)) (s .rows * s .lift + s .cols * s .lift) (few-inner plan s some-lift n k passes root) B n k way-end
+
+    few-run-calls : (S : List ℕ) → Nodup S → ((b : ℕ) → Mem b S → End b) → run B n k S .calls ≤ rootBound s
     unfolding rootBound
-    few-run-calls S apart low = omega (arith, run-calls B n k S, few-inner plan s some-lift n k passes root, stamped-few S apart low)
+    few-run-calls S apart ends = omega (arith, run-calls B n k S, stamped-few S apart ends)
 
     -- a root without an answer is run over once, one with an answer twice
     root-few : rootCalls B n k ≤ rootBound s + extra (rootBound s) (meeting B n k)
@@ -74,7 +84,7 @@ module _ (plan : List ℤ) (s : Shape) (some-lift : 0 < s .lift) where
         first = few-run-calls [] tt (λ b m. absurd m)
 
         again : (w : Way) → repeat [] (ways B n k) ≡ some w → run B n k (w .end ∷ []) .calls ≤ rootBound s
-        again w e = few-run-calls (w .end ∷ []) (λ m. m, tt) (λ b m. elim m [ inl q ↦ rw q (way-of plan s some-lift n k root w (some-mem [] (ways B n k) w e) .0) | inr x ↦ absurd x ])
+        again w e = few-run-calls (w .end ∷ []) (λ m. m, tt) (λ b m. elim m [ inl q ↦ subst End (sym q) (way-end w (some-mem [] (ways B n k) w e)) | inr x ↦ absurd x ])
 
         go : (m : Result) → meeting B n k ≡ m → (r : Result) → repeat [] (ways B n k) ≡ r → run B n k [] .calls + secondCalls B n k r ≤ rootBound s + extra (rootBound s) m
         go m e none h = omega (arith, first)

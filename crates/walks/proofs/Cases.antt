@@ -9,7 +9,7 @@ use Rattle.graph.specs.Count.{member}
 use Rattle.exponent.specs.Plan.{shifts, entryAt, blockAt}
 use Rattle.walks.specs.Steps.{Blocks, blocksOf}
 use Rattle.walks.specs.Ways.{each, fromBit, ways}
-use Rattle.walks.specs.Calls.{turns, bitCalls, run, rootCalls, callsUntil, roundCalls, searchCalls}
+use Rattle.walks.specs.Calls.{turns, bitCalls, run, rootCalls, callsUntil, roundCalls, searchCalls, rootBound}
 use Rattle.walks.specs.Meeting.{repeat, backAlong, meeting, firstOf, shortCycle}
 
 abbrev small : Blocks
@@ -44,3 +44,8 @@ two-calls = refl
 pub ring-calls : searchCalls ring 2 2 ≡ 5 + 4 + 3 + (7 + 4)
 unfolding searchCalls shortCycle firstOf roundCalls callsUntil rootCalls run bitCalls turns repeat member meeting ways fromBit each entryAt blockAt
 ring-calls = refl
+
+-- that first run comes to every check and bit once, and to bit 2 again: the bound of one run is reached
+pub ring-full : run ring 3 0 [] .calls ≡ rootBound (record { rows = 3; cols = 3; lift = 1 })
+unfolding run bitCalls turns member entryAt blockAt rootBound
+ring-full = refl

@@ -40,6 +40,9 @@ found-some (some w) t e = (w, refl, same-trail t (trail w) e)
 pub ran-shown : {stamp : ℕ} {l : List Way} {before after : List ℕ} {r r′ : Found} → r ≡ r′ → Ran stamp l before r after → Ran stamp l before r′ after
 ran-shown e h = record { shown = sym e ∙ h .shown; left = h .left }
 
+pub ran-same : {stamp : ℕ} {l : List Way} {before after after′ : List ℕ} {r r′ : Found} → r′ ≡ r → after′ ≡ after → Ran stamp l before r after → Ran stamp l before r′ after′
+ran-same p q h = record { shown = p ∙ h .shown; left = q ∙ h .left }
+
 -- A range, one turn on, and at its end.
 
 pub one-less : (n i : ℕ) → i < n → n - i ≡ suc (n - (i + 1))

@@ -1,5 +1,5 @@
 -- The walks to the calls before the last depth: no two are the same, and they are walks of the Tanner graph from the root. So, where
--- every cycle is long, they are not more than the vertices. Assumes nothing.
+-- every cycle is long, they and the bits at the last depth are not more than the vertices. Assumes nothing.
 use Prim.Native.Nat.{ℕ, zero, suc, _+_, _-_, _*_, _/_, _%_, _≤_, _<_}
 use mathlib.Core.Path.{_≡_, refl, sym, ap, subst, _∙_}
 use mathlib.Core.Logic.{inl, inr}
@@ -14,7 +14,7 @@ use lib.ListN.{length}
 use Rattle.graph.specs.Count.{Mem}
 use Rattle.graph.specs.Graph.{Bipartite}
 use Rattle.graph.specs.Girth.{Passes}
-use Rattle.graph.proofs.Ends.{few-walks}
+use Rattle.graph.proofs.Ends.{Reached, few-walks}
 use Rattle.graph.proofs.Lists.{Nodup}
 use Rattle.graph.proofs.Walks.{Node, check, bit, check-inj, bit-inj, Adj, Apart, Walk}
 use Rattle.exponent.specs.declared.position.Position.{Position}
@@ -28,6 +28,7 @@ use Rattle.walks.specs.Steps.{Blocks, blocksOf, toColumn, toRow}
 use Rattle.walks.specs.Ways.{corner, odd, rootBit, rootCheck, roots}
 use Rattle.walks.proofs.Inner.{over-step, checkAt, bitAt, innerCheck, innerBit, innerBy, stepped, nodup-branches}
 use Rattle.walks.proofs.Link.{at-0, checkFrom, bitFrom, step-bit, step-check, root-bit, root-check}
+use Rattle.walks.proofs.Roots.{rootOf}
 use Rattle.walks.proofs.Steps.{lands}
 use Rattle.walks.proofs.Ways.{mem-each}
 
@@ -110,28 +111,33 @@ edges-of n = go (odd n) refl
     go false e = let h = eqb-false (n % 2) 1 e in omega arith
 
 module _ (plan : List ℤ) (s : Shape) (some-lift : 0 < s .lift) where
-  inner-by : (t : Bool) (d k : ℕ) → k < cond t (s .rows) (s .cols) → Passes (graphOf plan s) (2 * edges t d) → length (innerBy t (blocksOf plan s) d k) ≤ s .rows * s .lift + s .cols * s .lift
+  inner-by : (t : Bool) (d k : ℕ) (E : List ℕ) → k < cond t (s .rows) (s .cols) → Passes (graphOf plan s) (2 * edges t d) → Nodup E → ((e : ℕ) → Mem e E → Reached (graphOf plan s) (edges t d) (rootOf t (at-0 s k)) e)
+      → length (innerBy t (blocksOf plan s) d k) + length E ≤ s .rows * s .lift + s .cols * s .lift
   unfolding tanner
-  inner-by true d k root passes =
+  inner-by true d k E root passes apart reached =
       let κ = corner k 0 in
       let z = at-0 s k in
       let next = innerBit (blocksOf plan s) κ d in
       let low = number-low k 0 (s .rows) (s .lift) root some-lift in
-      few-walks (graphOf plan s) (edges true d) (check z) (innerCheck (blocksOf plan s) κ next (rootCheck (blocksOf plan s) k)) passes low
-      (distinct-check plan s some-lift κ next (distinct-bit plan s some-lift κ d) (rootCheck (blocksOf plan s) k))
+      few-walks (graphOf plan s) (edges true d) (check z) (innerCheck (blocksOf plan s) κ next (rootCheck (blocksOf plan s) k)) E passes low
       (λ l m.
       let m₁ = subst (λ (p : Position). Mem l (innerCheck (blocksOf plan s) κ next p)) (root-check plan s some-lift k) m in
       let (w, _, short) = sound-check plan s some-lift κ d (sound-bit plan s some-lift κ d) (at-0 s (s .cols)) z l low m₁ in (w, short))
-  inner-by false d k root passes =
+      reached (distinct-check plan s some-lift κ next (distinct-bit plan s some-lift κ d) (rootCheck (blocksOf plan s) k)) apart
+  inner-by false d k E root passes apart reached =
       let κ = corner 0 k in
       let z = at-0 s k in
       let low = number-low k 0 (s .cols) (s .lift) root some-lift in
-      few-walks (graphOf plan s) (edges false d) (bit z) (innerBit (blocksOf plan s) κ d (rootBit (blocksOf plan s) k)) passes low
-      (distinct-bit plan s some-lift κ d (rootBit (blocksOf plan s) k))
+      few-walks (graphOf plan s) (edges false d) (bit z) (innerBit (blocksOf plan s) κ d (rootBit (blocksOf plan s) k)) E passes low
       (λ l m.
       let m₁ = subst (λ (p : Position). Mem l (innerBit (blocksOf plan s) κ d p)) (root-bit plan s some-lift k) m in
       let (w, _, short) = sound-bit plan s some-lift κ d (at-0 s (s .rows)) z l low m₁ in (w, short))
+      reached (distinct-bit plan s some-lift κ d (rootBit (blocksOf plan s) k)) apart
 
-  -- not more than there are checks and bits
-  pub few-inner : (n k : ℕ) → Passes (graphOf plan s) (2 * n) → k < roots (blocksOf plan s) n → length (innerBy (odd n) (blocksOf plan s) (n / 2) k) ≤ s .rows * s .lift + s .cols * s .lift
-  few-inner n k passes root = inner-by (odd n) (n / 2) k root (subst (λ (m : ℕ). Passes (graphOf plan s) (2 * m)) (sym (edges-of n)) passes)
+  -- with different bits that n edges lead to, not more than there are checks and bits
+  pub few-inner : (n k : ℕ) → Passes (graphOf plan s) (2 * n) → k < roots (blocksOf plan s) n
+      → (E : List ℕ) → Nodup E → ((e : ℕ) → Mem e E → Reached (graphOf plan s) n (rootOf (odd n) (at-0 s k)) e)
+      → length (innerBy (odd n) (blocksOf plan s) (n / 2) k) + length E ≤ s .rows * s .lift + s .cols * s .lift
+  few-inner n k passes root E apart reached =
+      inner-by (odd n) (n / 2) k E root (subst (λ (m : ℕ). Passes (graphOf plan s) (2 * m)) (sym (edges-of n)) passes) apart
+      (λ e m. subst (λ (x : ℕ). Reached (graphOf plan s) x (rootOf (odd n) (at-0 s k)) e) (sym (edges-of n)) (reached e m))

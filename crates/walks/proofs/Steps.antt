@@ -16,11 +16,13 @@ use Rattle.exponent.specs.Position.{forward, back}
 use Rattle.exponent.proofs.Numbers.{number-low}
 use Rattle.walks.specs.declared.Corner.{Corner}
 use Rattle.walks.specs.declared.Step.the-variants.{Stay, To}
+use Rattle.walks.specs.declared.trail.Found.{Found}
 use Rattle.walks.specs.declared.trail.Trail.{Trail}
 use Rattle.walks.specs.Steps.{Blocks, blocksOf, over, unless, toColumn, toRow, AtCheck, AtBit}
-use Rattle.walks.specs.Ways.{Way, more, joint}
+use Rattle.walks.specs.Ways.{Way, more, andThen, each, joint}
 use Rattle.walks.specs.Trail.{push}
 use Rattle.walks.specs.Ways.{arrived, fromCheck, fromBit}
+use Rattle.walks.specs.Stamps.{Ran}
 use Rattle.walks.proofs.Loops.{Left, left-start}
 
 -- (i, j) has a place in a list of R rows of C
@@ -73,12 +75,31 @@ module _ (B : Blocks) (k : Corner) (stamp d : ℕ) (p : Position) (seen₀ : Lis
   pub at-check-left : CheckLeft (k .col) seen₀
   at-check-left = left-start stamp (toColumn B p) (onward B k d p) (B .cols) (k .col) seen₀
 
-  pub at-end : d ≡ 0 → arrived B p ∷ [] ≡ fromBit B k d p
-  unfolding fromBit
-  at-end e = rw e
-
 pub at-bit-left : (B : Blocks) (k : Corner) (stamp d : ℕ) (p : Position) (seen₀ : List ℕ) → (d ≡ 0 → ⊥) → BitLeft B k stamp d p seen₀ (k .row) seen₀
 unfolding fromBit
 at-bit-left B k stamp zero p seen₀ h = absurd (h refl)
 at-bit-left B k stamp (suc d) p seen₀ h =
     let e : suc d - 1 ≡ d = omega arith in rw e (left-start stamp (toRow B p) (fromCheck B k (fromBit B k d)) (B .rows) (k .row) seen₀)
+
+-- At a check with no more checks to go: its bits, from column j₀ on, are the ends.
+
+abbrev pub arriving : Blocks → Position → Position → List Way
+arriving B p q = map (more (joint B p q)) (arrived B q ∷ [])
+
+abbrev pub endsFrom : Blocks → Position → ℕ → List Way
+endsFrom B p j₀ = each (λ j. andThen (toColumn B p j) (arriving B p)) (B .cols - j₀) j₀
+
+module _ (B : Blocks) (p : Position) (stamp j₀ : ℕ) (seen₀ : List ℕ) where
+  abbrev pub EndsLeft : ℕ → List ℕ → Type 0
+  EndsLeft = Left stamp (endsFrom B p j₀) seen₀ (toColumn B p) (arriving B p) (B .cols)
+
+  pub ends-left : EndsLeft j₀ seen₀
+  ends-left = left-start stamp (toColumn B p) (arriving B p) (B .cols) j₀ seen₀
+
+module _ (B : Blocks) (k : Corner) (p : Position) {stamp : ℕ} {before after : List ℕ} {r : Found} where
+  pub ends-ran : Ran stamp (endsFrom B p (k .col)) before r after → Ran stamp (fromCheck B k (fromBit B k 0) p) before r after
+  unfolding fromBit
+  ends-ran h = h
+
+  pub ends-at : {d : ℕ} → d ≡ 0 → Ran stamp (fromCheck B k (fromBit B k 0) p) before r after → Ran stamp (fromCheck B k (fromBit B k d) p) before r after
+  ends-at e h = rw e h

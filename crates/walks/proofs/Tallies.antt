@@ -1,6 +1,6 @@
 -- The count of calls goes over the ways that the search goes over, and stops where it stops: at the first repeat. So it stamps each
--- bit at most once, and one of them again. Assumes nothing.
-use Prim.Native.Nat.{ℕ, zero, suc, _+_, _-_, _*_, _/_, _≤_, _<_}
+-- end of a way at most once, and one of them again. Assumes nothing.
+use Prim.Native.Nat.{ℕ, zero, suc, _+_, _-_, _*_, _/_, _≤_}
 use mathlib.Core.Path.{_≡_, refl, sym, ap, subst, _∙_}
 use mathlib.Core.Logic.{inl, inr}
 use mathlib.Core.Bool.{Bool, true, false, cond}
@@ -9,7 +9,7 @@ use mathlib.Core.Option.{none, some}
 use native.Mathlib.Omega.{arith}
 use lib.ListN.{length}
 use Rattle.graph.specs.Count.{Mem, member}
-use Rattle.graph.proofs.Count.{mem-member, few-below}
+use Rattle.graph.proofs.Count.{mem-member}
 use Rattle.graph.proofs.Decide.{by-bool, both-ways}
 use Rattle.graph.proofs.Lists.{Nodup}
 use Rattle.exponent.specs.declared.position.Position.{Position}
@@ -121,31 +121,32 @@ follow-stops (w ∷ W) S = go (member (w .end) S) (follow-stops W (w .end ∷ S)
 pub run-stops : (B : Blocks) (n k : ℕ) (S : List ℕ) → run B n k S .met ≡ isSome (repeat S (ways B n k))
 run-stops B n k S = ap (λ (m : State). m .met) (run-follows B n k S) ∙ follow-stops (ways B n k) S
 
--- FEW STAMPS: each of the n numbers below n once, and one of them again
+-- FEW STAMPS: each number with P once, and one of them again; different ones with P are, with i others, c at most
 
-record Fresh (n : ℕ) (m : State) : Type 0 where
-  low : (b : ℕ) → Mem b (m .stamped) → b < n
-  apart : m .met ≡ false → Nodup (m .stamped)
-  few : length (m .stamped) ≤ suc n
+module _ (P : ℕ → Type 0) (i c : ℕ) (limit : (E : List ℕ) → Nodup E → ((b : ℕ) → Mem b E → P b) → i + length E ≤ c) where
+  record Fresh (m : State) : Type 0 where
+    every : (b : ℕ) → Mem b (m .stamped) → P b
+    apart : m .met ≡ false → Nodup (m .stamped)
+    few : i + length (m .stamped) ≤ suc c
 
-stamps : (n b : ℕ) (m : State) → b < n → m .met ≡ false → Fresh n m → Fresh n (stamp b m)
-stamps n b m h e f =
-    record {
-      low = λ x i. elim i [ inl q ↦ rw q h | inr k ↦ f .low x k ];
-      apart = λ t. (λ i. both-ways (mem-member b (m .stamped) i) t, f .apart e);
-      few = omega (arith, few-below n (m .stamped) (f .apart e) (f .low));
-    }
+  stamps : (b : ℕ) (m : State) → P b → m .met ≡ false → Fresh m → Fresh (stamp b m)
+  stamps b m h e f =
+      record {
+        every = λ x j. elim j [ inl q ↦ subst P (sym q) h | inr k ↦ f .every x k ];
+        apart = λ t. (λ j. both-ways (mem-member b (m .stamped) j) t, f .apart e);
+        few = omega (arith, limit (m .stamped) (f .apart e) (f .every));
+      }
 
-follow-fresh : (n : ℕ) (W : List Way) → ((w : Way) → Mem w W → w .end < n) → (m : State) → Fresh n m → Fresh n (follow W m)
-unfolding follow
-follow-fresh n [] h m f = f
-follow-fresh n (w ∷ W) h m f = go (m .met) refl (follow-fresh n W (λ v i. h v (inr i)) (stamp (w .end) m))
-  where
-    go : (t : Bool) → m .met ≡ t → (Fresh n (stamp (w .end) m) → Fresh n (follow W (stamp (w .end) m))) → Fresh n (cond t m (follow W (stamp (w .end) m)))
-    go true e later = f
-    go false e later = later (stamps n (w .end) m (h w (inl refl)) e f)
+  follow-fresh : (W : List Way) → ((w : Way) → Mem w W → P (w .end)) → (m : State) → Fresh m → Fresh (follow W m)
+  unfolding follow
+  follow-fresh [] h m f = f
+  follow-fresh (w ∷ W) h m f = go (m .met) refl (follow-fresh W (λ v j. h v (inr j)) (stamp (w .end) m))
+    where
+      go : (t : Bool) → m .met ≡ t → (Fresh (stamp (w .end) m) → Fresh (follow W (stamp (w .end) m))) → Fresh (cond t m (follow W (stamp (w .end) m)))
+      go true e later = f
+      go false e later = later (stamps (w .end) m (h w (inl refl)) e f)
 
-pub few-stamps : (B : Blocks) (n k c : ℕ) → ((w : Way) → Mem w (ways B n k) → w .end < c) → (S : List ℕ) → Nodup S → ((b : ℕ) → Mem b S → b < c) → length (run B n k S .stamped) ≤ suc c
-few-stamps B n k c h S apart low =
-    let start : Fresh c (record { stamped = S; met = false }) = record { low = low; apart = λ e. apart; few = omega (arith, few-below c S apart low) } in
-    subst (Fresh c) (sym (run-follows B n k S)) (follow-fresh c (ways B n k) h _ start) .few
+  pub few-stamps : (B : Blocks) (n k : ℕ) → ((w : Way) → Mem w (ways B n k) → P (w .end)) → (S : List ℕ) → Nodup S → ((b : ℕ) → Mem b S → P b) → i + length (run B n k S .stamped) ≤ suc c
+  few-stamps B n k h S apart every =
+      let start : Fresh (record { stamped = S; met = false }) = record { every = every; apart = λ e. apart; few = omega (arith, limit S apart every) } in
+      subst Fresh (sym (run-follows B n k S)) (follow-fresh (ways B n k) h _ start) .few

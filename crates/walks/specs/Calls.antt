@@ -1,5 +1,5 @@
--- The calls of `at_bit` and `at_check` that the search makes: the measure of its time. A call's loop has a turn for each call that it
--- makes, and two more at most. proofs/Bound.antt bounds them.
+-- The calls that the search makes, of `at_bit`, `at_check`, `ends` and `arrive`: the measure of its time. A call's loop has a turn for
+-- each call that it makes, and two more at most. proofs/Bound.antt bounds them.
 use Prim.Native.Nat.{ℕ, zero, suc, _+_, _-_, _*_, _/_}
 use mathlib.Core.Bool.{Bool, true, false, cond}
 use mathlib.Core.List.{List, [], _∷_}
@@ -35,7 +35,8 @@ unfoldable pub turns : (ℕ → Tally → Tally) → ℕ → ℕ → Tally → T
 turns f zero i t = t
 turns f (suc k) i t = let later = turns f k (suc i) (f i t) in cond (t .met) t later
 
--- a call of `at_check`, with the calls that it makes; and one of `at_bit`, with d checks to go
+-- a call at a check, of `at_check` or `ends`, with the calls that it makes; and one at a bit, of `at_bit` with d checks to go, or of
+-- `arrive` where there is none
 abbrev pub checkCalls : Blocks → Corner → (Position → Tally → Tally) → Position → Tally → Tally
 checkCalls B k next p t = turns (λ j. onStep (toColumn B p j) next) (B .cols - k .col) (k .col) (called t)
 
@@ -75,10 +76,9 @@ roundCalls B n = callsUntil (meeting B n) (rootCalls B n) (roots B n) 0
 unfoldable pub searchCalls : Blocks → ℕ → ℕ → ℕ
 searchCalls B k n = callsUntil (shortCycle B) (roundCalls B) k n
 
--- THE BOUND. From one root: before the last depth every check and every bit at most once, and at the last every bit at most once and
--- then one of them again.
+-- THE BOUND. From one root: every check and every bit at most once, and then one bit again.
 unfoldable pub rootBound : Shape → ℕ
-rootBound s = s .rows * s .lift + 2 * (s .cols * s .lift) + 1
+rootBound s = s .rows * s .lift + s .cols * s .lift + 1
 
 -- in k rounds: each root once, and one of them twice
 unfoldable pub searchBound : Shape → ℕ → ℕ

@@ -25,7 +25,7 @@ fn ways_from(
     seen: &mut [u16],
     stamp: u16,
 ) -> Found
-    requires { ⌜ WellFormed (now plan) (shape .rows) (shape .cols) (shape .lift) × (k < roots (blocksOf (now plan) shape) n) × Lists (now plan) shape (now down) (now along) (now seen) ⌝ }
+    requires { ⌜ WellFormed (now plan) (shape .rows) (shape .cols) (shape .lift) × (2 ≤ n) × (k < roots (blocksOf (now plan) shape) n) × Lists (now plan) shape (now down) (now along) (now seen) ⌝ }
     ensures { λ r. ⌜ Ran stamp (ways (blocksOf (now (plan .entry)) shape) n k) (now (seen .entry)) r (now (seen .exit)) ⌝ }
 {
     let depth = n / 2;
@@ -58,7 +58,7 @@ fn meet_at(
     k: usize,
     seen: &mut [u16],
 ) -> Found
-    requires { ⌜ WellFormed (now plan) (shape .rows) (shape .cols) (shape .lift) × (k < roots (blocksOf (now plan) shape) n) × (n ≤ places) × Lists (now plan) shape (now down) (now along) (now seen) × Below (now seen) (1024 * n + 2 * k) ⌝ }
+    requires { ⌜ WellFormed (now plan) (shape .rows) (shape .cols) (shape .lift) × (2 ≤ n) × (k < roots (blocksOf (now plan) shape) n) × (n ≤ places) × Lists (now plan) shape (now down) (now along) (now seen) × Below (now seen) (1024 * n + 2 * k) ⌝ }
     ensures { λ r. ⌜ Answered (meeting (blocksOf (now (plan .entry)) shape) n k) (1024 * n + 2 * k + 2) r (now (seen .exit)) ⌝ }
 {
     let stamp = (1024 * n + 2 * k) as u16;
@@ -100,7 +100,7 @@ pub fn short_cycle(
     n: usize,
     seen: &mut [u16],
 ) -> Found
-    requires { ⌜ WellFormed (now plan) (shape .rows) (shape .cols) (shape .lift) × (n ≤ places) × Lists (now plan) shape (now down) (now along) (now seen) × Below (now seen) (1024 * n) ⌝ }
+    requires { ⌜ WellFormed (now plan) (shape .rows) (shape .cols) (shape .lift) × (2 ≤ n) × (n ≤ places) × Lists (now plan) shape (now down) (now along) (now seen) × Below (now seen) (1024 * n) ⌝ }
     ensures { λ r. ⌜ Answered (shortCycle (blocksOf (now (plan .entry)) shape) n) (1024 * (n + 1)) r (now (seen .exit)) ⌝ }
 {
     let count = root_count(shape, n);

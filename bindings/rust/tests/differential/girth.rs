@@ -84,22 +84,31 @@ fn likely_plan(random: &Random) -> OwnedPlan {
     column_plan(random, rows, cols, lift, weight)
 }
 
-// Cycles side by side, one of 2n edges for each n, with no edge between them. A shift is the sum of a number of its row and one
-// of its column, so that each cycle closes on its first round.
+fn empty_plan(rows: usize, cols: usize, lift: usize) -> OwnedPlan {
+    OwnedPlan { entries: vec![-1; rows * cols], rows, cols, lift }
+}
+
+// A cycle of 2n edges in the n rows and columns from (row, col) on. A shift is the sum of a number of its row and one of its
+// column, so that the cycle closes on its first round.
+fn put_ring(plan: &mut OwnedPlan, row: usize, col: usize, n: usize) {
+    for k in 0..n {
+        let i = row + k;
+        for j in [col + k, col + (k + 1) % n] {
+            plan.entries[i * plan.cols + j] = ((3 * i + 5 * j) % plan.lift) as i16;
+        }
+    }
+}
+
+// Cycles side by side, one of 2n edges for each n, with no edge between them.
 fn rings(halves: &[usize], lift: usize) -> OwnedPlan {
     let size = halves.iter().sum();
-    let mut entries = vec![-1; size * size];
+    let mut plan = empty_plan(size, size, lift);
     let mut first = 0;
     for &n in halves {
-        for k in 0..n {
-            let row = first + k;
-            for col in [first + k, first + (k + 1) % n] {
-                entries[row * size + col] = ((3 * row + 5 * col) % lift) as i16;
-            }
-        }
+        put_ring(&mut plan, first, first, n);
         first += n;
     }
-    OwnedPlan { entries, rows: size, cols: size, lift }
+    plan
 }
 
 // Where cycles of several lengths are below the target, a shortest is shown, wherever it stands.
@@ -115,6 +124,17 @@ fn compare_rings(seen: &mut Seen) {
     }
 }
 
+// One cycle in the last rows and columns of the largest plans, where the search begins last.
+fn compare_last_rings(seen: &mut Seen) {
+    for (rows, cols, lift) in [(192, 512, 128), (192, 16, 4096), (5, 512, 1), (192, 5, 4096)] {
+        for n in 2..6 {
+            let mut plan = empty_plan(rows, cols, lift);
+            put_ring(&mut plan, rows - n, cols - n, n);
+            assert_eq!(compare(&plan.lent(), seen), Some(2 * n), "the girth of {n} rows of {rows}");
+        }
+    }
+}
+
 pub fn compare_all() -> Seen {
     let (random, mut seen) = (Random::new(2), Seen::default());
     for plan in limit_plans(&random) {
@@ -125,6 +145,7 @@ pub fn compare_all() -> Seen {
     }
     compare(&cyclic_plan(4, 1024).lent(), &mut seen);
     compare_rings(&mut seen);
+    compare_last_rings(&mut seen);
     // By the remainders 0 to 3 of e: girth 4, 16, 8, 16.
     every_entry(4).for_each(|plan| _ = compare(&plan.lent(), &mut seen));
     let mut met = [0; 13];

@@ -33,7 +33,7 @@ short-cycle-requires c κs =
     let l = c .before .before in
     let p = start l .pre in
     let v = l .loop .inv in
-    (p .0, omega (arith, c .before .loop-test .taken, p .1), same-lists (v .3) (p .2), v .2)
+    (p .0, v .0, omega (arith, c .before .loop-test .taken, p .1), same-lists (v .3) (p .2), v .2)
 
 enum-known-f : tie.Need-enum-known-f Inv-loop μ-loop
 enum-known-f c = search needs

@@ -16,7 +16,7 @@ use Rattle.walks.proofs.meet.meet_at.Tie as tie
 
 -- the root is one of at most 512
 root-low : (s : tie.Start) → s .args .k < 512
-root-low s = omega (arith, s .pre .1, few-roots (s .pre .0) (s .args .n))
+root-low s = omega (arith, s .pre .2, few-roots (s .pre .0) (s .args .n))
 
 abbrev start : tie.After-ways-from → tie.Start
 start r = r .before .before .before .before .before
@@ -30,7 +30,7 @@ end-in c =
     let r = first c in
     let s = start r in
     let p = s .pre in
-    end-low (now (s .args .plan)) (s .args .shape) (p .0 .some-lift) (s .args .n) (s .args .k) (p .1) (p .2) (p .3 .room) (p .4) (r .ways-from .ensures) (c .before .f .given .1)
+    end-low (now (s .args .plan)) (s .args .shape) (p .0 .some-lift) (s .args .n) (s .args .k) (p .2) (p .3) (p .4 .room) (p .5) (r .ways-from .ensures) (c .before .f .given .1)
 
 mul-stamp : tie.Need-mul-stamp
 mul-stamp c = search needs
@@ -54,19 +54,19 @@ enum-known-f : tie.Need-enum-known-f
 enum-known-f c = search needs
 
 add-next : tie.Need-add-next
-add-next c = let s = start (first c) in record { fits = omega (arith, root-low s, s .pre .2) }
+add-next c = let s = start (first c) in record { fits = omega (arith, root-low s, s .pre .3) }
 
 mul-seen : tie.Need-mul-seen
 mul-seen c = let s = start (first c) in record { fits = omega (arith, end-in c, s .pre .0 .few-bits) }
 
 slice-write-seen : tie.Need-slice-write-seen
-slice-write-seen c = let r = first c in omega (arith, end-in c, start r .pre .3 .room, r .ways-from .kept .1 .1 .1 .1 .1 .1 .0)
+slice-write-seen c = let r = first c in omega (arith, end-in c, start r .pre .4 .room, r .ways-from .kept .1 .1 .1 .1 .1 .1 .0)
 
 ways-from-requires-2 : tie.Need-ways-from-requires-2
 ways-from-requires-2 c κs =
     let r = first (c .before) in
     let p = start r .pre in
-    (p .0, p .1, same-lists (simp length-set (r .ways-from .kept .1 .1 .1 .1 .1 .1 .0)) (p .3))
+    (p .0, p .1, p .2, same-lists (simp length-set (r .ways-from .kept .1 .1 .1 .1 .1 .1 .0)) (p .4))
 
 enum-told-2 : tie.Need-enum-told-2
 enum-told-2 c = search needs
@@ -91,8 +91,8 @@ returns c =
     let s = start r in
     let p = s .pre in
     record {
-      shown = meets-none (now (s .args .plan)) (s .args .shape) (p .0 .some-lift) (s .args .n) (s .args .k) (p .1) (p .2) (p .3 .room) (p .4) (r .ways-from .ensures) (c .enum-told .given .1);
-      fresh = below-more (omega arith) (left-below (now (s .args .plan)) (s .args .shape) (p .0 .some-lift) (s .args .n) (s .args .k) (p .1) (p .2) (p .3 .room) (p .4) (r .ways-from .ensures));
+      shown = meets-none (now (s .args .plan)) (s .args .shape) (p .0 .some-lift) (s .args .n) (s .args .k) (p .2) (p .3) (p .4 .room) (p .5) (r .ways-from .ensures) (c .enum-told .given .1);
+      fresh = below-more (omega arith) (left-below (now (s .args .plan)) (s .args .shape) (p .0 .some-lift) (s .args .n) (s .args .k) (p .2) (p .3) (p .4 .room) (p .5) (r .ways-from .ensures));
     }
 
 same-length-2 : tie.Need-same-length-2
@@ -110,8 +110,8 @@ returns-2 c =
     let p = s .pre in
     let kept = r .ways-from .kept .1 .1 .1 .1 .1 .1 .0 in
     record {
-      shown = meets-lost (now (s .args .plan)) (s .args .shape) (p .0 .some-lift) (s .args .n) (s .args .k) (p .1) (p .2) (p .3 .room) (p .4) (r .ways-from .ensures) (m .before .f .given .1) kept (q .ways-from2 .ensures) (c .enum-told2 .given .1);
-      fresh = both-below (now (s .args .plan)) (s .args .shape) (p .0 .some-lift) (s .args .n) (s .args .k) (p .1) (p .2) (p .3 .room) (p .4) (r .ways-from .ensures) (m .before .f .given .1) kept (q .ways-from2 .ensures);
+      shown = meets-lost (now (s .args .plan)) (s .args .shape) (p .0 .some-lift) (s .args .n) (s .args .k) (p .2) (p .3) (p .4 .room) (p .5) (r .ways-from .ensures) (m .before .f .given .1) kept (q .ways-from2 .ensures) (c .enum-told2 .given .1);
+      fresh = both-below (now (s .args .plan)) (s .args .shape) (p .0 .some-lift) (s .args .n) (s .args .k) (p .2) (p .3) (p .4 .room) (p .5) (r .ways-from .ensures) (m .before .f .given .1) kept (q .ways-from2 .ensures);
     }
 
 same-length-3 : tie.Need-same-length-3
@@ -131,8 +131,8 @@ returns-3 c =
     let kept = r .ways-from .kept .1 .1 .1 .1 .1 .1 .0 in
     record {
       shown = ap Met (c .join .ensures ∙ ap (λ (z : ℕ). joinTrail (odd (s .args .n)) (s .args .n / 2) z (m .before .f .given .0 .0) (g .g .given .0 .0)) (c .before .number .ensures))
-          ∙ meets-both (now (s .args .plan)) (s .args .shape) (p .0 .some-lift) (s .args .n) (s .args .k) (p .1) (p .2) (p .3 .room) (p .4) (r .ways-from .ensures) (m .before .f .given .1) kept (q .ways-from2 .ensures) (g .g .given .1);
-      fresh = both-below (now (s .args .plan)) (s .args .shape) (p .0 .some-lift) (s .args .n) (s .args .k) (p .1) (p .2) (p .3 .room) (p .4) (r .ways-from .ensures) (m .before .f .given .1) kept (q .ways-from2 .ensures);
+          ∙ meets-both (now (s .args .plan)) (s .args .shape) (p .0 .some-lift) (s .args .n) (s .args .k) (p .2) (p .3) (p .4 .room) (p .5) (r .ways-from .ensures) (m .before .f .given .1) kept (q .ways-from2 .ensures) (g .g .given .1);
+      fresh = both-below (now (s .args .plan)) (s .args .shape) (p .0 .some-lift) (s .args .n) (s .args .k) (p .2) (p .3) (p .4 .room) (p .5) (r .ways-from .ensures) (m .before .f .given .1) kept (q .ways-from2 .ensures);
     }
 
 pub meet-at-spec : {M : Type 1} → statement M

@@ -33,7 +33,7 @@ root-count-requires : tie.Need-root-count-requires Inv-loop μ-loop
 root-count-requires c κs = search needs
 
 loop-holds : tie.Need-loop-holds Inv-loop μ-loop
-loop-holds c = (roots-start _ _, below-more (omega arith) (c .before .before .before .before .pre .3), refl, omega arith)
+loop-holds c = (roots-start _ _, below-more (omega arith) (c .before .before .before .before .pre .4), refl, omega arith)
 
 add-k : tie.Need-add-k Inv-loop μ-loop
 add-k c = search needs
@@ -43,7 +43,7 @@ meet-at-requires c κs =
     let l = c .before .before in
     let p = start l .pre in
     let v = l .loop .inv in
-    (p .0, in-roots (c .before), p .1, same-lists (v .2) (p .2), v .1)
+    (p .0, p .1, in-roots (c .before), p .2, same-lists (v .2) (p .3), v .1)
 
 enum-known-f : tie.Need-enum-known-f Inv-loop μ-loop
 enum-known-f c = search needs

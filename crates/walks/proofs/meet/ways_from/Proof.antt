@@ -1,4 +1,5 @@
 -- `walks::meet::ways_from` meets its contract: the parity of n says where the root is. Assumes nothing.
+use native.Mathlib.Omega.{arith}
 use denote.Ref.{now}
 use Rattle.walks.proofs.Runs.{check-root, bit-root, check-ran, bit-ran}
 use borrow.Author.Needs.{needs}
@@ -10,7 +11,7 @@ at-check-requires c κs =
     let t = c .before in
     let b = t .before .before .before .before in
     let p = b .pre in
-    (record { formed = p .0; row = check-root (now (b .args .plan)) (b .args .shape) (b .args .n) (b .args .k) (t .if1 .taken) (p .1); voltage = p .0 .some-lift }, p .2)
+    (omega (arith, p .1), record { formed = p .0; row = check-root (now (b .args .plan)) (b .args .shape) (b .args .n) (b .args .k) (t .if1 .taken) (p .2); voltage = p .0 .some-lift }, p .3)
 
 same-length : tie.Need-same-length
 same-length c = search needs
@@ -27,7 +28,7 @@ at-bit-requires c κs =
     let t = c .before in
     let b = t .before .before .before .before in
     let p = b .pre in
-    (record { formed = p .0; col = bit-root (now (b .args .plan)) (b .args .shape) (b .args .n) (b .args .k) (t .if1 .left) (p .1); voltage = p .0 .some-lift }, p .2)
+    (omega (arith, p .1), record { formed = p .0; col = bit-root (now (b .args .plan)) (b .args .shape) (b .args .n) (b .args .k) (t .if1 .left) (p .2); voltage = p .0 .some-lift }, p .3)
 
 same-length-2 : tie.Need-same-length-2
 same-length-2 c = search needs

@@ -1,25 +1,25 @@
 -- The cycle of calls {at_bit, at_check}: `at_bit` at depth d calls `at_check` at d - 1, and `at_check` calls `at_bit` at the same
 -- depth, so 2d and 2d + 1 are the measures. Each loop keeps what is left of its ways, and skips by its index. Assumes nothing.
 use Prim.Native.Nat.{ℕ, _<_, _≤_, _+_, _-_, _*_}
-use mathlib.Core.Path.{_≡_, refl, sym, ap, subst, _∙_}
+use mathlib.Core.Path.{_≡_, refl, sym, ap, _∙_}
+use mathlib.Core.Logic.{⊎-elim}
 use native.Mathlib.Omega.{arith}
 use lib.ListN.{length}
 use denote.Ref.{now}
 use borrow.Author.Needs.{needs}
 use borrow.Fn.Kinds.{In, Out}
 use borrow.Fn.PlainCycle.{Measures, is, falls, and}
-use Rattle.exponent.proofs.Numbers.{number-low}
 use Rattle.index.specs.Index.{NextFrom, filledAt}
 use Rattle.index.proofs.next.Reads as next-reads
 use Rattle.walks.specs.declared.Step.the-variants.{To}
 use Rattle.walks.specs.declared.trail.Found.the-variants.{Met}
-use Rattle.walks.specs.Steps.{Blocks, blocksOf, toColumn, toRow, AtBit}
-use Rattle.walks.specs.Ways.{Joint, joint}
-use Rattle.walks.specs.Stamps.{Ran}
-use Rattle.walks.proofs.Loops.{left-stay, left-miss, left-hit, left-end, more-nothing, more-met, ran-shown}
+use Rattle.walks.specs.Steps.{Blocks, blocksOf, toColumn, toRow, AtCheck, AtBit}
+use Rattle.walks.specs.Ways.{Joint, joint, fromCheck, fromBit}
+use Rattle.walks.specs.Stamps.{Ran, Lists}
+use Rattle.walks.proofs.Loops.{left-stay, left-miss, left-hit, left-end, more-nothing, more-met, ran-shown, ran-same}
 use Rattle.walks.proofs.Stamps.{same-lists}
-use Rattle.walks.proofs.Steps.{listed, to-bit, to-check, push-same, BitLeft, at-bit-left, CheckLeft, at-end, at-check-left}
-use Rattle.walks.proofs.search.arrive.Reads as arrive-reads
+use Rattle.walks.proofs.Steps.{listed, to-bit, to-check, push-same, BitLeft, at-bit-left, CheckLeft, ends-at, at-check-left}
+use Rattle.walks.proofs.search.ends.Reads as ends-reads
 use Rattle.walks.proofs.number.Reads as number-reads
 use Rattle.walks.proofs.to_column.Reads as to-column-reads
 use Rattle.walks.proofs.to_row.Reads as to-row-reads
@@ -67,12 +67,12 @@ check-μ plan down along shape corner depth p seen₀ stamp cols j₀ seen j = c
 
 abbrev bit-claims : ℕ → at-bit-lts.Claims
 bit-claims t = (
-  arrive-reads.Asked,
-  arrive-reads.Learnt,
   next-reads.Asked,
   next-reads.Learnt,
   to-row-reads.Asked,
   to-row-reads.Learnt,
+  ends-reads.Asked,
+  ends-reads.Learnt,
   at-check-below t,
   at-check.Post,
 )
@@ -91,10 +91,6 @@ check-claims t = (
   push-reads.Learnt,
 )
 
--- the place of a bit's stamp
-stamp-place : {C P n j v : ℕ} → C * P ≤ n → j < C → v < P → j * P + v < n
-stamp-place {C} {P} {n} {j} {v} h p q = omega (arith, number-low j v C P p q)
-
 module _ (t : ℕ) where
   -- the form of each place and need
   abbrev bit : (at-bit-lts.Claims → In 4 at-bit-kinds.ps → Out 4 at-bit-kinds.ps at-bit-kinds.r → at-bit-lts.InvT-loop → at-bit-lts.MeasureT-loop → Type 0) → Type 0
@@ -109,14 +105,14 @@ module _ (t : ℕ) where
   bit-blocks s = blocksOf (now (s .args .plan)) (s .args .shape)
 
   abbrev bit-start : bit at-bit-lts.At-loop → bit at-bit-lts.Start
-  bit-start l = l .before .before .before .before .before
+  bit-start l = l .before .before .before .before
 
   -- what the index says, and what is left from there on
   row-next : (c : bit at-bit-lts.After-next) → let l = c .before .before in let a = bit-start l .args in
       NextFrom (λ k. filledAt (now (a .plan)) (a .shape) k (a .p .col)) (l .loop .i) (a .shape .rows) (c .next .result)
   row-next c =
       let p = bit-start (c .before .before) .pre .1 in
-      rw (c .next .ensures) (p .1 .downward .next _ _ (c .before .loop-test .taken) (p .0 .col))
+      rw (c .next .ensures) (p .2 .downward .next _ _ (c .before .loop-test .taken) (p .1 .col))
 
   row-left : (c : bit at-bit-lts.After-next) → let l = c .before .before in let s = bit-start l in
       BitLeft (bit-blocks s) (s .args .corner) (s .args .stamp) (s .args .depth) (s .args .p) (now (s .args .seen)) (c .next .result) (l .loop .seen)
@@ -128,33 +124,39 @@ module _ (t : ℕ) where
       toRow (bit-blocks s) (s .args .p) (n .next .result) ≡ To (c .step .given .0 .0)
   row-landed c = sym (c .before .before .to-row .ensures) ∙ c .step .given .1
 
-  bit-arrive-requires : bit at-bit-lts.Need-arrive-requires
-  bit-arrive-requires c κs =
-      let p = c .before .before .before .before .before .pre .1 in
-      (omega (arith, p .0 .col, p .0 .formed .few-cols), p .0 .formed .small-lift, p .0 .voltage, stamp-place (p .1 .room) (p .0 .col) (p .0 .voltage))
+  -- the check that it leads to, and the lists there
+  check-of : (c : bit at-bit-lts.After-step) → let s = bit-start (c .before .before .before .before .before .before) in
+      AtCheck (now (s .args .plan)) (s .args .shape) (c .step .given .0 .0)
+  check-of c =
+      let e = c .before .before .before in to-check (bit-start (e .before .before .before) .pre .1 .1) (e .if1 .left) (row-landed c)
 
-  bit-same-length : bit at-bit-lts.Need-same-length
-  bit-same-length c = c .before .before .arrive .kept .1 .1 .0
+  lists-at : (l : bit at-bit-lts.At-loop) → let a = bit-start l .args in Lists (now (a .plan)) (a .shape) (now (a .down)) (now (a .along)) (l .loop .seen)
+  lists-at l = same-lists (l .loop .inv .1) (bit-start l .pre .1 .2)
 
-  bit-returns : bit at-bit-lts.Need-returns
-  bit-returns c =
-      let e = c .before .before in
-      let a = e .before .before .before .before .before .before .args in
-      subst (λ (l : _). Ran (a .stamp) l (now (a .seen)) (e .arrive .result) (e .arrive .last .1 .1 .0))
-      (at-end (blocksOf (now (a .plan)) (a .shape)) (a .corner) (a .stamp) (a .depth) (a .p) (now (a .seen)) (e .before .before .if1 .taken)) (e .arrive .ensures)
+  -- what is found behind that check, by either way
+  bit-found : (c : bit at-bit-lts.Joined2) → let s = c .before .before in let l = s .before .before .before .before .before .before in let a = bit-start l .args in
+      Ran (a .stamp) (fromCheck (bit-blocks (bit-start l)) (a .corner) (fromBit (bit-blocks (bit-start l)) (a .corner) (a .depth - 1)) (s .step .given .0 .0)) (l .loop .seen) (c .if2 .f) (c .if2 .seen)
+      × (length (c .if2 .seen) ≡ length (l .loop .seen))
+  bit-found c =
+      let s = c .before .before in
+      let a = bit-start (s .before .before .before .before .before .before) .args in
+      ⊎-elim
+      (λ w. let last = w .0 .taken in (ran-same (w .6) (w .5) (ends-at (blocksOf (now (a .plan)) (a .shape)) (a .corner) (s .step .given .0 .0) (omega arith) (w .2 .ensures)), ap length (w .5) ∙ w .2 .kept .1 .1 .1 .1 .1 .0))
+      (λ w. (ran-same (w .6) (w .5) (w .2 .ensures), ap length (w .5) ∙ w .2 .kept .1 .1 .1 .1 .1 .1 .1 .0))
+      (c .if2 .came)
 
   bit-loop-holds : bit at-bit-lts.Need-loop-holds
-  bit-loop-holds c = (at-bit-left _ _ _ _ _ _ (c .if1 .left), refl)
+  bit-loop-holds c = let some = c .before .before .before .pre .1 .0 in (at-bit-left _ _ _ _ _ _ (λ e. omega arith), refl)
 
   bit-next-requires : bit at-bit-lts.Need-next-requires
   bit-next-requires c κs =
-      let p = bit-start (c .before) .pre .1 in listed (p .1 .downward .whole) (c .loop-test .taken) (p .0 .col)
+      let p = bit-start (c .before) .pre .1 in listed (p .2 .downward .whole) (c .loop-test .taken) (p .1 .col)
 
-  bit-same-length-2 : bit at-bit-lts.Need-same-length-2
-  bit-same-length-2 c = c .before .before .before .loop .inv .1
+  bit-same-length : bit at-bit-lts.Need-same-length
+  bit-same-length c = c .before .before .before .loop .inv .1
 
-  bit-returns-2 : bit at-bit-lts.Need-returns-2
-  bit-returns-2 c = left-end (row-left (c .before)) (c .if2 .taken)
+  bit-returns : bit at-bit-lts.Need-returns
+  bit-returns c = left-end (row-left (c .before)) (c .if1 .taken)
 
   bit-add-i : bit at-bit-lts.Need-add-i
   bit-add-i c = search needs
@@ -165,64 +167,69 @@ module _ (t : ℕ) where
   bit-enum-known-step : bit at-bit-lts.Need-enum-known-step
   bit-enum-known-step c = search needs
 
+  bit-ends-requires : bit at-bit-lts.Need-ends-requires
+  bit-ends-requires c κs =
+      let s = c .before .before .before in
+      let lists = lists-at (s .before .before .before .before .before .before) in
+      (check-of s, lists .onward, lists .room)
+
   bit-sub-at-check : bit at-bit-lts.Need-sub-at-check
   bit-sub-at-check c = search needs
 
   bit-at-check-requires : bit at-bit-lts.Need-at-check-requires
   bit-at-check-requires c κs =
-      let e = c .before .before .before .before .before in
-      let l = e .before .before .before in
+      let s = c .before .before .before in
+      let l = s .before .before .before .before .before .before in
       let p = bit-start l .pre in
-      (omega (arith, p .0, l .before .if1 .left), (to-check (p .1 .0) (e .if2 .left) (row-landed (c .before .before)), same-lists (l .loop .inv .1) (p .1 .1)))
+      let more = c .before .if2 .left in
+      (omega (arith, p .0, p .1 .0), (omega (arith, more, p .1 .0), check-of s, lists-at l))
 
   bit-enum-known-f : bit at-bit-lts.Need-enum-known-f
   bit-enum-known-f c = search needs
 
-  bit-same-length-3 : bit at-bit-lts.Need-same-length-3
-  bit-same-length-3 c =
-      let r = c .before .before .before .before .before in
-      r .at-check .kept .1 .1 .1 .1 .1 .1 .1 .0 ∙ r .before .before .before .before .before .before .before .before .before .loop .inv .1
+  bit-same-length-2 : bit at-bit-lts.Need-same-length-2
+  bit-same-length-2 c =
+      let j = c .before .before .before in bit-found j .1 ∙ j .before .before .before .before .before .before .before .before .loop .inv .1
 
-  bit-returns-3 : bit at-bit-lts.Need-returns-3
-  bit-returns-3 c =
+  bit-returns-2 : bit at-bit-lts.Need-returns-2
+  bit-returns-2 c =
       let f = c .before in
-      let r = f .before .before .before .before in
-      let s = r .before .before .before in
-      left-hit (row-left (s .before .before .before .before)) (s .before .before .before .if2 .left) (row-landed s)
-      (ran-shown (f .f .given .1) (r .at-check .ensures))
+      let j = f .before .before in
+      let s = j .before .before in
+      left-hit (row-left (s .before .before .before .before)) (s .before .before .before .if1 .left) (row-landed s) (ran-shown (f .f .given .1) (bit-found j .0))
 
   bit-enum-told : bit at-bit-lts.Need-enum-told
   bit-enum-told c = search needs
 
   bit-loop-less : bit at-bit-lts.Need-loop-less
   bit-loop-less c =
-      let e = c .before .before .before .before .before .before .before .before .before .before in let l = e .if2 .left in omega (arith, row-next (e .before) .from-here)
+      let e = c .before .before .before .before .before .before .before in let l = e .if1 .left in omega (arith, row-next (e .before) .from-here)
 
   bit-loop-again : bit at-bit-lts.Need-loop-again
   bit-loop-again c =
-      let r = c .before .before .before .before in
-      let s = r .before .before .before in (
-        left-miss (row-left (s .before .before .before .before)) (s .before .before .before .if2 .left) (row-landed s)
-            (ran-shown (c .enum-told .given .1) (r .at-check .ensures)),
-        r .at-check .kept .1 .1 .1 .1 .1 .1 .1 .0 ∙ s .before .before .before .before .before .before .loop .inv .1,
+      let j = c .before .before in
+      let s = j .before .before in (
+        left-miss (row-left (s .before .before .before .before)) (s .before .before .before .if1 .left) (row-landed s)
+            (ran-shown (c .enum-told .given .1) (bit-found j .0)),
+        bit-found j .1 ∙ s .before .before .before .before .before .before .loop .inv .1,
       )
 
   bit-enum-told-2 : bit at-bit-lts.Need-enum-told-2
   bit-enum-told-2 c = search needs
 
   bit-loop-less-2 : bit at-bit-lts.Need-loop-less-2
-  bit-loop-less-2 c = let e = c .before .before .before in let l = e .if2 .left in omega (arith, row-next (e .before) .from-here)
+  bit-loop-less-2 c = let e = c .before .before .before in let l = e .if1 .left in omega (arith, row-next (e .before) .from-here)
 
   bit-loop-again-2 : bit at-bit-lts.Need-loop-again-2
   bit-loop-again-2 c =
       let e = c .before .before .before in
-      (left-stay (row-left (e .before)) (e .if2 .left) (sym (c .before .before .to-row .ensures) ∙ c .enum-told2 .given .1), e .before .before .before .loop .inv .1)
+      (left-stay (row-left (e .before)) (e .if1 .left) (sym (c .before .before .to-row .ensures) ∙ c .enum-told2 .given .1), e .before .before .before .loop .inv .1)
 
-  bit-same-length-4 : bit at-bit-lts.Need-same-length-4
-  bit-same-length-4 c = c .before .loop .inv .1
+  bit-same-length-3 : bit at-bit-lts.Need-same-length-3
+  bit-same-length-3 c = c .before .loop .inv .1
 
-  bit-returns-4 : bit at-bit-lts.Need-returns-4
-  bit-returns-4 c = left-end (c .before .loop .inv .0) (c .loop-test .left)
+  bit-returns-3 : bit at-bit-lts.Need-returns-3
+  bit-returns-3 c = left-end (c .before .loop .inv .0) (c .loop-test .left)
 
   -- AT A CHECK
 
@@ -237,7 +244,7 @@ module _ (t : ℕ) where
       NextFrom (filledAt (now (a .plan)) (a .shape) (a .p .row)) (l .loop .j) (a .shape .cols) (c .next .result)
   col-next c =
       let p = check-start (c .before .before) .pre .1 in
-      rw (c .next .ensures) (p .1 .onward .next _ _ (p .0 .row) (c .before .loop-test .taken))
+      rw (c .next .ensures) (p .2 .onward .next _ _ (p .1 .row) (c .before .loop-test .taken))
 
   col-left : (c : check at-check-lts.After-next) → let l = c .before .before in let s = check-start l in
       CheckLeft (check-blocks s) (s .args .corner) (s .args .stamp) (s .args .depth) (s .args .p) (now (s .args .seen)) (c .next .result) (l .loop .seen)
@@ -252,7 +259,7 @@ module _ (t : ℕ) where
   bit-of : (c : check at-check-lts.After-step) → let s = check-start (c .before .before .before .before .before .before) in
       AtBit (now (s .args .plan)) (s .args .shape) (c .step .given .0 .0)
   bit-of c =
-      let e = c .before .before .before in to-bit (check-start (e .before .before .before) .pre .1 .0) (e .if1 .left) (col-landed c)
+      let e = c .before .before .before in to-bit (check-start (e .before .before .before) .pre .1 .1) (e .if1 .left) (col-landed c)
 
   -- what the step adds to a way
   abbrev added : check at-check-lts.After-step → Joint
@@ -264,7 +271,7 @@ module _ (t : ℕ) where
 
   check-next-requires : check at-check-lts.Need-next-requires
   check-next-requires c κs =
-      let p = check-start (c .before) .pre .1 in listed (p .1 .onward .whole) (p .0 .row) (c .loop-test .taken)
+      let p = check-start (c .before) .pre .1 in listed (p .2 .onward .whole) (p .1 .row) (c .loop-test .taken)
 
   check-same-length : check at-check-lts.Need-same-length
   check-same-length c = c .before .before .before .loop .inv .1
@@ -285,14 +292,14 @@ module _ (t : ℕ) where
   check-at-bit-requires c κs =
       let l = c .before .before .before .before .before .before .before .before in
       let p = check-start l .pre in
-      (omega (arith, p .0), (bit-of (c .before .before), same-lists (l .loop .inv .1) (p .1 .1)))
+      (omega (arith, p .0), (p .1 .0, bit-of (c .before .before), same-lists (l .loop .inv .1) (p .1 .2)))
 
   check-enum-known-f : check at-check-lts.Need-enum-known-f
   check-enum-known-f c = search needs
 
   check-number-requires : check at-check-lts.Need-number-requires
   check-number-requires c κs =
-      let p = check-start (c .before .before .before .before .before .before .before .before .before .before .before .before .before .before) .pre .1 .0 in search needs
+      let p = check-start (c .before .before .before .before .before .before .before .before .before .before .before .before .before .before) .pre .1 .1 in search needs
 
   check-number-requires-2 : check at-check-lts.Need-number-requires-2
   check-number-requires-2 c κs = let p = bit-of (c .before .before .before .before .before .before .before .before .before) in search needs
@@ -353,29 +360,27 @@ pub +at-bit+at-check-spec : {M : Type 1} → statement M
     at-bit.Post
     bit-inv
     bit-μ
-    (bit-arrive-requires t)
-    (bit-same-length t)
-    (bit-returns t)
     (bit-loop-holds t)
     (bit-next-requires t)
-    (bit-same-length-2 t)
-    (bit-returns-2 t)
+    (bit-same-length t)
+    (bit-returns t)
     (bit-add-i t)
     (bit-to-row-requires t)
     (bit-enum-known-step t)
+    (bit-ends-requires t)
     (bit-sub-at-check t)
     (bit-at-check-requires t)
     (bit-enum-known-f t)
-    (bit-same-length-3 t)
-    (bit-returns-3 t)
+    (bit-same-length-2 t)
+    (bit-returns-2 t)
     (bit-enum-told t)
     (bit-loop-less t)
     (bit-loop-again t)
     (bit-enum-told-2 t)
     (bit-loop-less-2 t)
     (bit-loop-again-2 t)
-    (bit-same-length-4 t)
-    (bit-returns-4 t))
+    (bit-same-length-3 t)
+    (bit-returns-3 t))
     λ t. at-check-lts.spec (check-claims t)
     (at-check-at t)
     at-check.Post
