@@ -29,11 +29,11 @@ pub record Meeting (G : Bipartite) (n : ℕ) (s : Node) : Type 0 where
   pub differ : one ≢ two
 
 -- back along l to s, and on along m: the first vertex and the last
-pub first-of : (s : Node) (l m : List Node) (e : Node) (k : List Node) → reverseAux l (s ∷ m) ≡ e ∷ k → last s l ≡ e
+first-of : (s : Node) (l m : List Node) (e : Node) (k : List Node) → reverseAux l (s ∷ m) ≡ e ∷ k → last s l ≡ e
 first-of s [] m e k h = cc
 first-of s (x ∷ l) m e k h = first-of x l (s ∷ m) e k h
 
-pub last-of : (s : Node) (l m : List Node) (e : Node) (k : List Node) → reverseAux l (s ∷ m) ≡ e ∷ k → last e k ≡ last s m
+last-of : (s : Node) (l m : List Node) (e : Node) (k : List Node) → reverseAux l (s ∷ m) ≡ e ∷ k → last e k ≡ last s m
 last-of s [] m e k h = let p : s ≡ e = cc in let q : m ≡ k = cc in ap₂ last (sym p) (sym q)
 last-of s (x ∷ l) m e k h = last-of x l (s ∷ m) e k h
 

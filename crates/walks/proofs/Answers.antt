@@ -7,7 +7,7 @@ use mathlib.Core.Option.{none, some, Option·none-ne-some}
 use native.Mathlib.Omega.{arith}
 use Rattle.graph.specs.Count.{Mem}
 use Rattle.graph.proofs.Decide.{by-eq}
-use Rattle.walks.specs.Ways.{Way, ways}
+use Rattle.walks.specs.Ways.{Way}
 use Rattle.walks.specs.Meeting.{Result, repeat, with-way, orElse, firstOf}
 use Rattle.walks.proofs.Repeats.{none-seen, some-mem}
 

@@ -26,7 +26,7 @@ use Rattle.walks.specs.Stamps.{Run, scan, Ran}
 pub differ : {C : Type 0} (t : Trail) → Nothing ≡ Met t → C
 differ t e = absurd (let z : _≡_ {A = ℕ} 0 1 = cc in omega arith)
 
-pub same-trail : (t u : Trail) → Met t ≡ Met u → t ≡ u
+same-trail : (t u : Trail) → Met t ≡ Met u → t ≡ u
 same-trail t u e = cc
 
 pub found-none : (r : Result) → Nothing ≡ found r → r ≡ none
@@ -53,11 +53,11 @@ none-left n i h = omega arith
 
 -- A run over more ways: what it met stays met, and else it goes on with the stamps that it has left.
 
-abbrev pub goOn : Result → List ℕ → (List ℕ → Run) → Run
+abbrev goOn : Result → List ℕ → (List ℕ → Run) → Run
 goOn none s f = f s
 goOn (some w) s f = record { hit = some w; seen = s }
 
-pub scan-append : (stamp : ℕ) (l m : List Way) (seen : List ℕ) → scan stamp (l ++ m) seen ≡ goOn (scan stamp l seen .hit) (scan stamp l seen .seen) (scan stamp m)
+scan-append : (stamp : ℕ) (l m : List Way) (seen : List ℕ) → scan stamp (l ++ m) seen ≡ goOn (scan stamp l seen .hit) (scan stamp l seen .seen) (scan stamp m)
 unfolding scan
 scan-append stamp [] m seen = refl
 scan-append stamp (w ∷ l) m seen =
@@ -73,7 +73,7 @@ abbrev pub after : Joint → Result → Result
 after e none = none
 after e (some w) = some (more e w)
 
-pub scan-more : (stamp : ℕ) (e : Joint) (l : List Way) (seen : List ℕ)
+scan-more : (stamp : ℕ) (e : Joint) (l : List Way) (seen : List ℕ)
     → scan stamp (map (more e) l) seen ≡ record { hit = after e (scan stamp l seen .hit); seen = scan stamp l seen .seen }
 unfolding scan
 scan-more stamp e [] seen = refl

@@ -1,5 +1,5 @@
 -- The roots of a round: every way from one is a walk of n edges that ends at a bit, and no way stands twice. Assumes nothing.
-use Prim.Native.Nat.{ℕ, suc, _+_, _-_, _*_, _/_, _<_, _%_}
+use Prim.Native.Nat.{ℕ, suc, _-_, _*_, _/_, _<_, _%_}
 use mathlib.Core.Path.{_≡_, refl, sym, ap, ap₂, subst, _∙_}
 use mathlib.Core.Logic.{inl, inr, _⊎_}
 use mathlib.Core.List.{List, [], _∷_}
@@ -17,7 +17,7 @@ use Rattle.exponent.specs.declared.Shape.{Shape}
 use Rattle.exponent.specs.Tanner.{graphOf, tanner}
 use Rattle.exponent.proofs.Numbers.{number-low}
 use Rattle.walks.specs.Steps.{Blocks, blocksOf}
-use Rattle.walks.specs.Ways.{Way, more, fromCheck, fromBit, corner, odd, roots, waysBy, ways}
+use Rattle.walks.specs.Ways.{Way, fromCheck, fromBit, corner, odd, roots, waysBy, ways}
 use Rattle.walks.proofs.Link.{at-0, checkFrom, bitFrom, root-bit, root-check}
 use Rattle.walks.proofs.Ways.{sound-bit, sound-check}
 use Rattle.walks.proofs.Repeats.{distinct-bits, distinct-checks}

@@ -6,6 +6,9 @@ use Rattle.walks.proofs.Stamps.{stamps-made, stamps-fresh, stamps-room}
 use Rattle.girth.proofs.test_valid.Statement.{statement}
 use Rattle.girth.proofs.test_valid.Tie as tie
 
+abbrev built : tie.After-along3 → tie.After-build
+built c = c .before .before .before .before
+
 slice-aggregate-build : tie.Need-slice-aggregate-build
 slice-aggregate-build c = index-made
 
@@ -26,7 +29,7 @@ slice-aggregate-shortest-below-3 c = stamps-made
 
 shortest-below-requires : tie.Need-shortest-below-requires
 shortest-below-requires c κs =
-    let b = c .before .before .before .before .before in
+    let b = built (c .before) in
     let p = b .before .before .before .pre in
     (p .0, p .1, record { downward = b .build .ensures .0; onward = b .build .ensures .1; room = stamps-room (p .0 .few-bits) }, stamps-fresh)
 

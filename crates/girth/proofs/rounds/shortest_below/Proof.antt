@@ -22,6 +22,9 @@ abbrev μ-loop : tie.MeasureT-loop
 abbrev start : tie.At-loop Inv-loop μ-loop → tie.Start Inv-loop μ-loop
 start l = l .before .before .before .before
 
+abbrev round-of : tie.After-f Inv-loop μ-loop → tie.After-short-cycle Inv-loop μ-loop
+round-of f = f .before .before .before .before
+
 loop-holds : tie.Need-loop-holds Inv-loop μ-loop
 loop-holds c = (omega arith, refl, below-more (omega arith) (c .before .before .before .pre .3), refl)
 
@@ -43,12 +46,12 @@ witness-requires c κs = search needs
 
 same-length : tie.Need-same-length Inv-loop μ-loop
 same-length c =
-    let w = c .before .before .before .before .before .before in w .short-cycle .kept .1 .1 .1 .1 .1 .0 ∙ w .before .before .before .loop .inv .3
+    let w = round-of (c .before .before) in w .short-cycle .kept .1 .1 .1 .1 .1 .0 ∙ w .before .before .before .loop .inv .3
 
 returns : tie.Need-returns Inv-loop μ-loop
 returns c =
     let f = c .before .before in
-    let w = f .before .before .before .before in
+    let w = round-of f in
     let i = w .before .before in
     let a = start (i .before) .args in
     c .witness .ensures

@@ -24,6 +24,10 @@ start r = r .before .before .before .before .before
 abbrev first : tie.After-known-told → tie.After-ways-from
 first c = c .before .before .before .before .before
 
+-- the second run, from what it finds
+abbrev second : tie.After-g → tie.After-ways-from2
+second g = g .before .before .before .before
+
 -- the end of the way that the first run finds has a place
 end-in : (c : tie.After-known-told) → let s = start (first c) in c .before .f .given .0 .0 .end < s .args .shape .cols * s .args .shape .lift
 end-in c =
@@ -76,7 +80,7 @@ enum-known-g c = search needs
 
 number-requires : tie.Need-number-requires
 number-requires c κs =
-    let s = start (first (c .before .before .before .before .before .before .before)) in
+    let s = start (first (second (c .before) .before .before)) in
     (root-low s, s .pre .0 .small-lift, s .pre .0 .some-lift)
 
 join-requires : tie.Need-join-requires
@@ -116,14 +120,14 @@ returns-2 c =
 
 same-length-3 : tie.Need-same-length-3
 same-length-3 c =
-    let q = c .before .before .before .before .before .before .before in
+    let q = second (c .before .before .before) in
     let r = first (q .before .before) in
     q .ways-from2 .kept .1 .1 .1 .1 .1 .1 .0 ∙ simp length-set (r .ways-from .kept .1 .1 .1 .1 .1 .1 .0)
 
 returns-3 : tie.Need-returns-3
 returns-3 c =
     let g = c .before .before .before in
-    let q = g .before .before .before .before in
+    let q = second g in
     let m = q .before .before in
     let r = first m in
     let s = start r in

@@ -25,6 +25,9 @@ abbrev μ-loop : tie.MeasureT-loop
 abbrev start : tie.At-loop Inv-loop μ-loop → tie.Start Inv-loop μ-loop
 start l = l .before .before .before .before .before
 
+abbrev met-at : tie.After-f Inv-loop μ-loop → tie.After-meet-at Inv-loop μ-loop
+met-at f = f .before .before .before .before
+
 -- the loop goes over the roots
 in-roots : (c : tie.In-loop Inv-loop μ-loop) → let s = start (c .before) in c .before .loop .k < roots (blocksOf (now (s .args .plan)) (s .args .shape)) (s .args .n)
 in-roots c = omega (arith, c .loop-test .taken, c .before .before .root-count .ensures)
@@ -50,13 +53,13 @@ enum-known-f c = search needs
 
 same-length : tie.Need-same-length Inv-loop μ-loop
 same-length c =
-    let r = c .before .before .before .before .before in r .meet-at .kept .1 .1 .1 .1 .1 .1 .0 ∙ r .before .before .before .loop .inv .2
+    let r = met-at (c .before) in r .meet-at .kept .1 .1 .1 .1 .1 .1 .0 ∙ r .before .before .before .loop .inv .2
 
 returns : tie.Need-returns Inv-loop μ-loop
 unfolding shortCycle
 returns c =
     let f = c .before in
-    let r = f .before .before .before .before in
+    let r = met-at f in
     let i = r .before .before in
     let s = start (i .before) in
     record {

@@ -1,6 +1,6 @@
 -- The cycle of calls {at_bit, at_check}: `at_bit` at depth d calls `at_check` at d - 1, and `at_check` calls `at_bit` at the same
 -- depth, so 2d and 2d + 1 are the measures. Each loop keeps what is left of its ways, and skips by its index. Assumes nothing.
-use Prim.Native.Nat.{ℕ, _<_, _≤_, _+_, _-_, _*_}
+use Prim.Native.Nat.{ℕ, _<_, _+_, _-_}
 use mathlib.Core.Path.{_≡_, refl, sym, ap, _∙_}
 use mathlib.Core.Logic.{⊎-elim}
 use native.Mathlib.Omega.{arith}
@@ -107,6 +107,9 @@ module _ (t : ℕ) where
   abbrev bit-start : bit at-bit-lts.At-loop → bit at-bit-lts.Start
   bit-start l = l .before .before .before .before
 
+  abbrev bit-loop-of : bit at-bit-lts.After-step → bit at-bit-lts.At-loop
+  bit-loop-of s = s .before .before .before .before .before .before
+
   -- what the index says, and what is left from there on
   row-next : (c : bit at-bit-lts.After-next) → let l = c .before .before in let a = bit-start l .args in
       NextFrom (λ k. filledAt (now (a .plan)) (a .shape) k (a .p .col)) (l .loop .i) (a .shape .rows) (c .next .result)
@@ -125,7 +128,7 @@ module _ (t : ℕ) where
   row-landed c = sym (c .before .before .to-row .ensures) ∙ c .step .given .1
 
   -- the check that it leads to, and the lists there
-  check-of : (c : bit at-bit-lts.After-step) → let s = bit-start (c .before .before .before .before .before .before) in
+  check-of : (c : bit at-bit-lts.After-step) → let s = bit-start (bit-loop-of c) in
       AtCheck (now (s .args .plan)) (s .args .shape) (c .step .given .0 .0)
   check-of c =
       let e = c .before .before .before in to-check (bit-start (e .before .before .before) .pre .1 .1) (e .if1 .left) (row-landed c)
@@ -134,12 +137,12 @@ module _ (t : ℕ) where
   lists-at l = same-lists (l .loop .inv .1) (bit-start l .pre .1 .2)
 
   -- what is found behind that check, by either way
-  bit-found : (c : bit at-bit-lts.Joined2) → let s = c .before .before in let l = s .before .before .before .before .before .before in let a = bit-start l .args in
+  bit-found : (c : bit at-bit-lts.Joined2) → let s = c .before .before in let l = bit-loop-of s in let a = bit-start l .args in
       Ran (a .stamp) (fromCheck (bit-blocks (bit-start l)) (a .corner) (fromBit (bit-blocks (bit-start l)) (a .corner) (a .depth - 1)) (s .step .given .0 .0)) (l .loop .seen) (c .if2 .f) (c .if2 .seen)
       × (length (c .if2 .seen) ≡ length (l .loop .seen))
   bit-found c =
       let s = c .before .before in
-      let a = bit-start (s .before .before .before .before .before .before) .args in
+      let a = bit-start (bit-loop-of s) .args in
       ⊎-elim
       (λ w. let last = w .0 .taken in (ran-same (w .6) (w .5) (ends-at (blocksOf (now (a .plan)) (a .shape)) (a .corner) (s .step .given .0 .0) (omega arith) (w .2 .ensures)), ap length (w .5) ∙ w .2 .kept .1 .1 .1 .1 .1 .0))
       (λ w. (ran-same (w .6) (w .5) (w .2 .ensures), ap length (w .5) ∙ w .2 .kept .1 .1 .1 .1 .1 .1 .1 .0))
@@ -170,7 +173,7 @@ module _ (t : ℕ) where
   bit-ends-requires : bit at-bit-lts.Need-ends-requires
   bit-ends-requires c κs =
       let s = c .before .before .before in
-      let lists = lists-at (s .before .before .before .before .before .before) in
+      let lists = lists-at (bit-loop-of s) in
       (check-of s, lists .onward, lists .room)
 
   bit-sub-at-check : bit at-bit-lts.Need-sub-at-check
@@ -179,7 +182,7 @@ module _ (t : ℕ) where
   bit-at-check-requires : bit at-bit-lts.Need-at-check-requires
   bit-at-check-requires c κs =
       let s = c .before .before .before in
-      let l = s .before .before .before .before .before .before in
+      let l = bit-loop-of s in
       let p = bit-start l .pre in
       let more = c .before .if2 .left in
       (omega (arith, p .0, p .1 .0), (omega (arith, more, p .1 .0), check-of s, lists-at l))
@@ -189,7 +192,7 @@ module _ (t : ℕ) where
 
   bit-same-length-2 : bit at-bit-lts.Need-same-length-2
   bit-same-length-2 c =
-      let j = c .before .before .before in bit-found j .1 ∙ j .before .before .before .before .before .before .before .before .loop .inv .1
+      let j = c .before .before .before in bit-found j .1 ∙ bit-loop-of (j .before .before) .loop .inv .1
 
   bit-returns-2 : bit at-bit-lts.Need-returns-2
   bit-returns-2 c =
@@ -203,7 +206,7 @@ module _ (t : ℕ) where
 
   bit-loop-less : bit at-bit-lts.Need-loop-less
   bit-loop-less c =
-      let e = c .before .before .before .before .before .before .before in let l = e .if1 .left in omega (arith, row-next (e .before) .from-here)
+      let s = c .before .before .before .before in let e = s .before .before .before in let l = e .if1 .left in omega (arith, row-next (e .before) .from-here)
 
   bit-loop-again : bit at-bit-lts.Need-loop-again
   bit-loop-again c =
@@ -211,7 +214,7 @@ module _ (t : ℕ) where
       let s = j .before .before in (
         left-miss (row-left (s .before .before .before .before)) (s .before .before .before .if1 .left) (row-landed s)
             (ran-shown (c .enum-told .given .1) (bit-found j .0)),
-        bit-found j .1 ∙ s .before .before .before .before .before .before .loop .inv .1,
+        bit-found j .1 ∙ bit-loop-of s .loop .inv .1,
       )
 
   bit-enum-told-2 : bit at-bit-lts.Need-enum-told-2
@@ -239,6 +242,16 @@ module _ (t : ℕ) where
   abbrev check-start : check at-check-lts.At-loop → check at-check-lts.Start
   check-start l = l .before .before .before .before
 
+  -- from what is found back to the bit's visit, to the step that led there, and to the loop
+  abbrev visit : check at-check-lts.After-f → check at-check-lts.After-at-bit
+  visit f = f .before .before .before .before
+
+  abbrev step-of : check at-check-lts.After-at-bit → check at-check-lts.After-step
+  step-of r = r .before .before .before
+
+  abbrev check-loop-of : check at-check-lts.After-step → check at-check-lts.At-loop
+  check-loop-of s = s .before .before .before .before .before .before
+
   -- what the index says, and what is left from there on
   col-next : (c : check at-check-lts.After-next) → let l = c .before .before in let a = check-start l .args in
       NextFrom (filledAt (now (a .plan)) (a .shape) (a .p .row)) (l .loop .j) (a .shape .cols) (c .next .result)
@@ -256,7 +269,7 @@ module _ (t : ℕ) where
       toColumn (check-blocks s) (s .args .p) (n .next .result) ≡ To (c .step .given .0 .0)
   col-landed c = sym (c .before .before .to-column .ensures) ∙ c .step .given .1
 
-  bit-of : (c : check at-check-lts.After-step) → let s = check-start (c .before .before .before .before .before .before) in
+  bit-of : (c : check at-check-lts.After-step) → let s = check-start (check-loop-of c) in
       AtBit (now (s .args .plan)) (s .args .shape) (c .step .given .0 .0)
   bit-of c =
       let e = c .before .before .before in to-bit (check-start (e .before .before .before) .pre .1 .1) (e .if1 .left) (col-landed c)
@@ -264,7 +277,7 @@ module _ (t : ℕ) where
   -- what the step adds to a way
   abbrev added : check at-check-lts.After-step → Joint
   added c =
-      let s = check-start (c .before .before .before .before .before .before) in joint (check-blocks s) (s .args .p) (c .step .given .0 .0)
+      let s = check-start (check-loop-of c) in joint (check-blocks s) (s .args .p) (c .step .given .0 .0)
 
   check-loop-holds : check at-check-lts.Need-loop-holds
   check-loop-holds c = (at-check-left _ _ _ _ _ _, refl)
@@ -290,7 +303,7 @@ module _ (t : ℕ) where
 
   check-at-bit-requires : check at-check-lts.Need-at-bit-requires
   check-at-bit-requires c κs =
-      let l = c .before .before .before .before .before .before .before .before in
+      let l = check-loop-of (c .before .before) in
       let p = check-start l .pre in
       (omega (arith, p .0), (p .1 .0, bit-of (c .before .before), same-lists (l .loop .inv .1) (p .1 .2)))
 
@@ -299,24 +312,23 @@ module _ (t : ℕ) where
 
   check-number-requires : check at-check-lts.Need-number-requires
   check-number-requires c κs =
-      let p = check-start (c .before .before .before .before .before .before .before .before .before .before .before .before .before .before) .pre .1 .1 in search needs
+      let p = check-start (check-loop-of (step-of (visit (c .before)))) .pre .1 .1 in search needs
 
   check-number-requires-2 : check at-check-lts.Need-number-requires-2
-  check-number-requires-2 c κs = let p = bit-of (c .before .before .before .before .before .before .before .before .before) in search needs
+  check-number-requires-2 c κs = let p = bit-of (step-of (visit (c .before .before))) in search needs
 
   check-push-requires : check at-check-lts.Need-push-requires
   check-push-requires c κs = search needs
 
   check-same-length-2 : check at-check-lts.Need-same-length-2
   check-same-length-2 c =
-      let r = c .before .before .before .before .before .before .before .before in
-      r .at-bit .kept .1 .1 .1 .1 .1 .1 .1 .0 ∙ r .before .before .before .before .before .before .before .before .before .loop .inv .1
+      let r = visit (c .before .before .before .before) in r .at-bit .kept .1 .1 .1 .1 .1 .1 .1 .0 ∙ check-loop-of (step-of r) .loop .inv .1
 
   check-returns-2 : check at-check-lts.Need-returns-2
   check-returns-2 c =
       let f = c .before .before .before .before in
-      let r = f .before .before .before .before in
-      let s = r .before .before .before in
+      let r = visit f in
+      let s = step-of r in
       ran-shown (ap Met (sym (c .push .ensures ∙ push-same {t = f .f .given .0 .0} (c .before .before .number .ensures) (c .before .number2 .ensures) refl)))
       (left-hit (col-left (s .before .before .before .before)) (s .before .before .before .if1 .left) (col-landed s)
       (more-met (added s) (ran-shown (f .f .given .1) (r .at-bit .ensures))))
@@ -326,15 +338,15 @@ module _ (t : ℕ) where
 
   check-loop-less : check at-check-lts.Need-loop-less
   check-loop-less c =
-      let e = c .before .before .before .before .before .before .before .before .before .before in let l = e .if1 .left in omega (arith, col-next (e .before) .from-here)
+      let e = step-of (c .before .before .before .before) .before .before .before in let l = e .if1 .left in omega (arith, col-next (e .before) .from-here)
 
   check-loop-again : check at-check-lts.Need-loop-again
   check-loop-again c =
       let r = c .before .before .before .before in
-      let s = r .before .before .before in (
+      let s = step-of r in (
         left-miss (col-left (s .before .before .before .before)) (s .before .before .before .if1 .left) (col-landed s)
             (more-nothing (added s) (ran-shown (c .enum-told .given .1) (r .at-bit .ensures))),
-        r .at-bit .kept .1 .1 .1 .1 .1 .1 .1 .0 ∙ s .before .before .before .before .before .before .loop .inv .1,
+        r .at-bit .kept .1 .1 .1 .1 .1 .1 .1 .0 ∙ check-loop-of s .loop .inv .1,
       )
 
   check-enum-told-2 : check at-check-lts.Need-enum-told-2

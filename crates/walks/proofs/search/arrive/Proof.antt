@@ -27,8 +27,8 @@ empty-requires c κs = search needs
 
 returns : tie.Need-returns
 returns c =
-    let s = c .before .before .before .before .before in
     let n = c .before .before .before in
+    let s = n .before .before in
     subst₂ (λ (b : ℕ) (t : Trail). Ran (s .args .stamp) (record { joints = []; end = b } ∷ []) (now (s .args .seen)) (Met t) (now (s .args .seen)))
     (n .number .ensures) (sym (c .empty .ensures)) (arrive-met (s .args .stamp) (n .number .result) (now (s .args .seen)) (c .before .if1 .taken))
 

@@ -26,6 +26,16 @@ abbrev μ-loop : tie.MeasureT-loop
 abbrev start : tie.At-loop Inv-loop μ-loop → tie.Start Inv-loop μ-loop
 start l = l .before .before .before
 
+-- from what is found back to the bit's visit, to the step that led there, and to the loop
+abbrev visit : tie.After-f Inv-loop μ-loop → tie.After-arrive Inv-loop μ-loop
+visit f = f .before .before .before .before
+
+abbrev step-of : tie.After-arrive Inv-loop μ-loop → tie.After-step Inv-loop μ-loop
+step-of r = r .before .before .before
+
+abbrev loop-of : tie.After-step Inv-loop μ-loop → tie.At-loop Inv-loop μ-loop
+loop-of s = s .before .before .before .before .before .before
+
 abbrev blocks : tie.Start Inv-loop μ-loop → Blocks
 blocks s = blocksOf (now (s .args .plan)) (s .args .shape)
 
@@ -46,13 +56,13 @@ col-landed : (c : tie.After-step Inv-loop μ-loop) → let n = c .before .before
     toColumn (blocks s) (s .args .p) (n .next .result) ≡ To (c .step .given .0 .0)
 col-landed c = sym (c .before .before .to-column .ensures) ∙ c .step .given .1
 
-bit-of : (c : tie.After-step Inv-loop μ-loop) → let s = start (c .before .before .before .before .before .before) in
+bit-of : (c : tie.After-step Inv-loop μ-loop) → let s = start (loop-of c) in
     AtBit (now (s .args .plan)) (s .args .shape) (c .step .given .0 .0)
 bit-of c = let e = c .before .before .before in to-bit (start (e .before .before .before) .pre .0) (e .if1 .left) (col-landed c)
 
 -- what the step adds to a way
 abbrev added : tie.After-step Inv-loop μ-loop → Joint
-added c = let s = start (c .before .before .before .before .before .before) in joint (blocks s) (s .args .p) (c .step .given .0 .0)
+added c = let s = start (loop-of c) in joint (blocks s) (s .args .p) (c .step .given .0 .0)
 
 loop-holds : tie.Need-loop-holds Inv-loop μ-loop
 loop-holds c = let a = c .before .before .args in (ends-left (blocksOf (now (a .plan)) (a .shape)) (a .p) (a .stamp) (a .corner .col) (now (a .seen)), refl)
@@ -79,7 +89,7 @@ enum-known-step c = search needs
 
 arrive-requires : tie.Need-arrive-requires Inv-loop μ-loop
 arrive-requires c κs =
-    let l = c .before .before .before .before .before .before .before .before in
+    let l = loop-of (c .before .before) in
     let room = start l .pre .2 in
     let b = bit-of (c .before .before) in
     (omega (arith, b .col, b .formed .few-cols), b .formed .small-lift, b .voltage, listed (omega (arith, l .loop .inv .1)) (b .col) (b .voltage))
@@ -89,24 +99,23 @@ enum-known-f c = search needs
 
 number-requires : tie.Need-number-requires Inv-loop μ-loop
 number-requires c κs =
-    let p = start (c .before .before .before .before .before .before .before .before .before .before .before .before .before .before) .pre .0 in search needs
+    let p = start (loop-of (step-of (visit (c .before)))) .pre .0 in search needs
 
 number-requires-2 : tie.Need-number-requires-2 Inv-loop μ-loop
-number-requires-2 c κs = let p = bit-of (c .before .before .before .before .before .before .before .before .before) in search needs
+number-requires-2 c κs = let p = bit-of (step-of (visit (c .before .before))) in search needs
 
 push-requires : tie.Need-push-requires Inv-loop μ-loop
 push-requires c κs = search needs
 
 same-length-2 : tie.Need-same-length-2 Inv-loop μ-loop
 same-length-2 c =
-    let r = c .before .before .before .before .before .before .before .before in
-    r .arrive .kept .1 .1 .0 ∙ r .before .before .before .before .before .before .before .before .before .loop .inv .1
+    let r = visit (c .before .before .before .before) in r .arrive .kept .1 .1 .0 ∙ loop-of (step-of r) .loop .inv .1
 
 returns-2 : tie.Need-returns-2 Inv-loop μ-loop
 returns-2 c =
     let f = c .before .before .before .before in
-    let r = f .before .before .before .before in
-    let s = r .before .before .before in
+    let r = visit f in
+    let s = step-of r in
     let n = s .before .before .before .before in
     let a = start (n .before .before) .args in
     ends-ran (blocksOf (now (a .plan)) (a .shape)) (a .corner) (a .p)
@@ -118,15 +127,15 @@ enum-told c = search needs
 
 loop-less : tie.Need-loop-less Inv-loop μ-loop
 loop-less c =
-    let e = c .before .before .before .before .before .before .before .before .before .before in let l = e .if1 .left in omega (arith, col-next (e .before) .from-here)
+    let e = step-of (c .before .before .before .before) .before .before .before in let l = e .if1 .left in omega (arith, col-next (e .before) .from-here)
 
 loop-again : tie.Need-loop-again Inv-loop μ-loop
 loop-again c =
     let r = c .before .before .before .before in
-    let s = r .before .before .before in (
+    let s = step-of r in (
       left-miss (col-left (s .before .before .before .before)) (s .before .before .before .if1 .left) (col-landed s)
           (more-nothing (added s) (ran-shown (c .enum-told .given .1) (r .arrive .ensures))),
-      r .arrive .kept .1 .1 .0 ∙ s .before .before .before .before .before .before .loop .inv .1,
+      r .arrive .kept .1 .1 .0 ∙ loop-of s .loop .inv .1,
     )
 
 enum-told-2 : tie.Need-enum-told-2 Inv-loop μ-loop
