@@ -27,8 +27,7 @@ limited s k few-rows few-cols small-lift few-bits =
     omega (arith, add-mul (k * (R + C)) 1 X, mul-assoc k (R + C) X, mul-le-mul-left k roots)
 
 pub always-bounded : AlwaysBounded
-always-bounded plan rows cols lift target accepted =
-    let s : Shape = record { rows = rows; cols = cols; lift = lift } in
-    let w = formed plan rows cols lift target accepted in
+always-bounded plan s target accepted =
+    let w = formed plan (s .rows) (s .cols) (s .lift) target accepted in
     let few = few-calls plan s (w .some-lift) (rounds target) 2 (omega arith) (passes-first (graphOf plan s)) in
     record { by-sizes = few; by-limits = omega (arith, few, limited s (rounds target) (w .few-rows) (w .few-cols) (w .small-lift) (w .few-bits)) }
