@@ -1,4 +1,4 @@
-/* Quasi-cyclic LDPC plans: the eleven functions of libqcldpc.a (`rt staticlib qcldpc`), for C99 on x86-64. A program is linked
+/* Quasi-cyclic LDPC plans: the twelve functions of libqcldpc.a (`rt staticlib qcldpc`), for C99 on x86-64. A program is linked
  * with them by `-L target/staticlib -lqcldpc`.
  *
  * A plan is rows x cols numbers, row by row: -1 is a zero (empty) block, e from 0 to 32,767 the identity with its rows
@@ -35,10 +35,10 @@ extern "C" {
 uint64_t qcldpc_check(const int16_t *plan, size_t plan_len, uint64_t rows, uint64_t cols, uint64_t lift,
                       uint64_t *out, size_t out_len);
 
-/* The girth test: whether no simple cycle has fewer edges than the target (6, 8, 10 or 12). Refusals 1 to 6, 14.
- * out[0] is 0 where the plan passes. Else it is n, from 2 to 5, of a shortest cycle, so that 2n is the girth: out[1 + k] is
+/* The girth test: whether no simple cycle has fewer edges than the target (6, 8, 10, 12, 14, 16 or 18). Refusals 1 to 6, 14.
+ * out[0] is 0 where the plan passes. Else it is n, from 2 to 8, of a shortest cycle, so that 2n is the girth: out[1 + k] is
  * its check k and out[9 + k] its bit k; check k joins bit k, bit k joins check k + 1, the last bit joins check 0. Which of
- * the shortest is shown is free. All five places of checks and of bits are written, those not used with 0. */
+ * the shortest is shown is free. All eight places of checks and of bits are written, those not used with 0. */
 uint64_t qcldpc_girth(const int16_t *plan, size_t plan_len, uint64_t rows, uint64_t cols, uint64_t lift,
                       uint64_t target, uint64_t *out, size_t out_len);
 
@@ -72,6 +72,14 @@ uint64_t qcldpc_cyclic_table(uint64_t order, int16_t *table, size_t table_len, u
  * out[0] is the number of rows, out[1] of columns. */
 uint64_t qcldpc_build(uint64_t order, uint64_t lift, const int16_t *table, size_t table_len, const uint8_t *mask,
                       size_t mask_len, int16_t *plan, size_t plan_len, uint64_t *out, size_t out_len);
+
+/* The plan of the supplied Steiner triple system of an order v: 7, 9, 13, 15 or 19. Rows are its points from 0, columns its
+ * v * (v - 1) / 6 triples, rising by first, second and third point. There is one voltage for each point of each triple,
+ * points rising within a triple, so three for each column; an entry is its voltage's remainder by the lift, or -1 where the
+ * point is not in the triple. `plan` has exactly order x columns places. Refusals 3, 4 (of the five orders), 6 with the first
+ * place of a voltage below 0, 22, 23. out[0] is the number of rows, out[1] of columns. */
+uint64_t qcldpc_steiner(uint64_t order, uint64_t lift, const int16_t *voltages, size_t voltages_len,
+                        int16_t *plan, size_t plan_len, uint64_t *out, size_t out_len);
 
 /* Writes the alist text of a plan, padded; bytes past it stay. Refusals 1 to 6, 17 (so an empty place asks for the length).
  * out[0] is the text's length. */

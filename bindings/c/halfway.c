@@ -16,9 +16,9 @@ struct list {
     struct block *begin, *first, *last;
 };
 
-/* Of a way's checks, and of the bit after each, the last stands first. */
+/* Of a way's checks, and of the bit after each, the last stands first. A way is half of a cycle of at most 8 checks. */
 struct way {
-    size_t length, checks[5], bits[5], end;
+    size_t length, checks[4], bits[4], end;
 };
 
 static struct block by_row[ROWS * COLS], by_col[ROWS * COLS];
@@ -148,7 +148,7 @@ static void leave(const struct list *root, struct list *lists)
         lists[b->to].first++;
 }
 
-/* n of a shortest cycle of fewer edges than the target, and its n checks and bits; 0 where there is none. */
+/* n of a shortest cycle of fewer edges than the target, at most 18, and its n checks and bits; 0 where there is none. */
 unsigned plain_halfway(const int16_t *plan, size_t rows, size_t cols, size_t the_lift, size_t target,
                        size_t *checks, size_t *bits)
 {

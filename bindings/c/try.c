@@ -1,4 +1,4 @@
-/* Calls each of the eleven functions from C. Says which line is wrong, or "c: 11 functions answer". */
+/* Calls each of the twelve functions from C. Says which line is wrong, or "c: 12 functions answer". */
 #include "qcldpc.h"
 
 #include <stdio.h>
@@ -34,7 +34,24 @@ static void plans(void)
     EXPECT(out[1] + out[2] == 1 && out[9] + out[10] == 1);
     /* columns 0 and 1 have a cycle of 8 edges, columns 1 and 2 one of 4: the girth is 4 */
     EXPECT(qcldpc_girth(two_lengths, 6, 2, 3, 2, 12, out, QCLDPC_OUT) == 0 && 2 * out[0] == 4);
-    EXPECT(qcldpc_girth(plan, 2, 1, 2, 2, 14, out, QCLDPC_OUT) == 14);
+    EXPECT(qcldpc_girth(plan, 2, 1, 2, 2, 20, out, QCLDPC_OUT) == 14);
+}
+
+/* By 4 the plan 0 0 / 0 1 closes on the fourth round, over all eight checks and bits. A short cycle fills the rest with 0. */
+static void longest_cycle(void)
+{
+    const int16_t turning[4] = {0, 0, 0, 1}, zeros[4] = {0, 0, 0, 0};
+    uint64_t checks = 0, bits = 0;
+    EXPECT(qcldpc_girth(turning, 4, 2, 2, 4, 16, out, QCLDPC_OUT) == 0 && out[0] == 0);
+    EXPECT(qcldpc_girth(turning, 4, 2, 2, 4, 18, out, QCLDPC_OUT) == 0 && 2 * out[0] == 16);
+    for (int k = 0; k < 8; k++) {
+        checks |= UINT64_C(1) << out[1 + k];
+        bits |= UINT64_C(1) << out[9 + k];
+    }
+    EXPECT(checks == 255 && bits == 255);
+    EXPECT(qcldpc_girth(zeros, 4, 2, 2, 4, 18, out, QCLDPC_OUT) == 0 && out[0] == 2);
+    for (int k = 2; k < 8; k++)
+        EXPECT(out[1 + k] == 0 && out[9 + k] == 0);
 }
 
 static void words(void)
@@ -79,6 +96,35 @@ static void tables(void)
     EXPECT(qcldpc_build(4, 7, table, 16, mask, 16, built, 48 * 64, out, QCLDPC_OUT) == 0);
     EXPECT(out[0] == 48 && out[1] == 64);
     EXPECT(built[5 * 64 + 23] == 1 && built[23 * 64 + 23] == 0 && built[39 * 64 + 23] == 3);
+}
+
+/* The triples of order 7 are 0 1 3, 0 2 6, 0 4 5, 1 2 4, 1 5 6, 2 3 5 and 3 4 6; by 16 the voltages 16 to 20 are 0 to 4. */
+static void triples(void)
+{
+    static const int16_t wanted[49] = {
+        0, 3, 6, -1, -1, -1, -1,
+        1, -1, -1, 9, 12, -1, -1,
+        -1, 4, -1, 10, -1, 15, -1,
+        2, -1, -1, -1, -1, 0, 2,
+        -1, -1, 7, 11, -1, -1, 3,
+        -1, -1, 8, -1, 13, 1, -1,
+        -1, 5, -1, -1, 14, -1, 4,
+    };
+    int16_t voltages[21], built[49];
+    for (int k = 0; k < 21; k++)
+        voltages[k] = (int16_t)k;
+    EXPECT(qcldpc_steiner(7, 16, voltages, 21, built, 49, out, QCLDPC_OUT) == 0 && out[0] == 7 && out[1] == 7);
+    EXPECT(memcmp(built, wanted, sizeof wanted) == 0);
+    EXPECT(qcldpc_girth(built, 49, 7, 7, 16, 6, out, QCLDPC_OUT) == 0 && out[0] == 0);
+    EXPECT(qcldpc_steiner(7, 4097, voltages, 21, built, 49, out, QCLDPC_OUT) == 3);
+    EXPECT(qcldpc_steiner(19, 1150, voltages, 21, built, 49, out, QCLDPC_OUT) == 4);
+    EXPECT(qcldpc_steiner(8, 1150, voltages, 21, built, 49, out, QCLDPC_OUT) == 22);
+    EXPECT(qcldpc_steiner(9, 16, voltages, 21, built, 49, out, QCLDPC_OUT) == 23);
+    EXPECT(qcldpc_steiner(7, 16, voltages, 20, built, 49, out, QCLDPC_OUT) == 23);
+    EXPECT(qcldpc_steiner(7, 16, voltages, 21, built, 48, out, QCLDPC_OUT) == 23);
+    voltages[5] = voltages[20] = -1;
+    EXPECT(qcldpc_steiner(8, 16, voltages, 21, built, 48, out, QCLDPC_OUT) == 6 && out[0] == 5);
+    EXPECT(memcmp(built, wanted, sizeof wanted) == 0);
 }
 
 static void texts(void)
@@ -128,14 +174,16 @@ static void too_small_an_out(void)
 int main(void)
 {
     plans();
+    longest_cycle();
     words();
     previews();
     erasures();
     tables();
+    triples();
     texts();
     unpadded_texts();
     too_small_an_out();
     if (!wrong)
-        puts("c: 11 functions answer");
+        puts("c: 12 functions answer");
     return wrong;
 }

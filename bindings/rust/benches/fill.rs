@@ -5,7 +5,7 @@
 //! timed beside the decoder itself.
 mod common;
 
-use common::{cyclic_plan, judge, printed, shift, timed, OwnedPlan};
+use common::{cyclic_plan, judge, printed, shift, timed, OwnedPlan, Sequence};
 use qcldpc::Fill;
 use std::hint::black_box;
 use std::time::Duration;
@@ -105,16 +105,6 @@ fn decode(lists: &Lists, plan: &OwnedPlan, word: &mut [u8]) -> Result<Fill, u64>
     }
     let left = word.iter().filter(|&&x| x == 2).count();
     Ok(Fill { filled, left })
-}
-
-// A fixed sequence of numbers.
-struct Sequence(u64);
-
-impl Sequence {
-    fn next(&mut self) -> u64 {
-        self.0 = self.0.wrapping_mul(6364136223846793005).wrapping_add(1442695040888963407);
-        self.0 >> 33
-    }
 }
 
 // The zero word, which is a codeword, with n erasures.

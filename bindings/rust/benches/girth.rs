@@ -1,15 +1,13 @@
-//! Times the proved girth test at target 12 beside two plain references. On cyclic table plans: a search of closed walks over
+//! Times the proved girth test beside two plain references. On cyclic table plans at target 12: a search of closed walks over
 //! sparse lists, in Rust, which is what the library had before; and the library's own search, of two ways that meet halfway,
-//! in C (bindings/c/halfway.c). On the slowest plans that were found: the latter alone. Each takes the plan as numbers and
-//! builds its own lists of it.
+//! in C (bindings/c/halfway.c). The latter alone on the slowest plans that were found, at 12, and on a Steiner plan of order 19
+//! and girth 12, at 12, 14 and 18. Each takes the plan as numbers and builds its own lists of it.
 mod common;
 
-use common::{cyclic_plan, printed, shift, OwnedPlan};
+use common::{cyclic_plan, printed, shift, OwnedPlan, Sequence};
 use qcldpc::Girth;
 use std::hint::black_box;
 use std::time::Instant;
-
-const TARGET: usize = 12;
 
 #[link(name = "plain_halfway", kind = "static")]
 extern "C" {
@@ -24,17 +22,18 @@ extern "C" {
     ) -> u32;
 }
 
-fn proved(plan: &OwnedPlan) -> Girth {
-    qcldpc::girth(&plan.lent(), TARGET).expect("a plan that is not refused")
+fn proved(plan: &OwnedPlan, target: usize) -> Girth {
+    qcldpc::girth(&plan.lent(), target).expect("a plan that is not refused")
 }
 
-fn halfway(plan: &OwnedPlan) -> Girth {
+fn halfway(plan: &OwnedPlan, target: usize) -> Girth {
     common::judge(plan).expect("a plan that is not refused");
+    assert!(target <= 18);
     let OwnedPlan { entries, rows, cols, lift } = plan;
-    let (mut checks, mut bits) = ([0; 5], [0; 5]);
-    // SAFETY: the plan is valid, and a shown cycle has at most 5 checks and bits. No other thread calls the function.
+    let (mut checks, mut bits) = ([0; 8], [0; 8]);
+    // SAFETY: the plan is valid, and a shown cycle has at most 8 checks and bits. No other thread calls the function.
     let n = unsafe {
-        plain_halfway(entries.as_ptr(), *rows, *cols, *lift, TARGET, checks.as_mut_ptr(), bits.as_mut_ptr()) as usize
+        plain_halfway(entries.as_ptr(), *rows, *cols, *lift, target, checks.as_mut_ptr(), bits.as_mut_ptr()) as usize
     };
     answer(checks[..n].to_vec(), bits[..n].to_vec())
 }
@@ -107,9 +106,9 @@ fn at_check(g: &Sparse, start: usize, depth: usize, row: usize, from: usize, v: 
 }
 
 // A shortest closed walk below the target, from the bits at voltage 0; a path holds its checks and bits from the last on.
-fn closed_walks(plan: &OwnedPlan) -> Girth {
+fn closed_walks(plan: &OwnedPlan, target: usize) -> Girth {
     let g = sparse(plan);
-    for n in 2..TARGET / 2 {
+    for n in 2..target / 2 {
         for start in 0..plan.cols {
             let mut path = vec![];
             if at_bit(&g, start, n - 1, start, usize::MAX, 0, &mut path) {
@@ -135,17 +134,20 @@ fn is_simple_cycle(plan: &OwnedPlan, checks: &[usize], bits: &[usize]) -> bool {
     n == bits.len() && n >= 2 && distinct(checks) && distinct(bits) && (0..n).all(joined)
 }
 
-type Search = (&'static str, fn(&OwnedPlan) -> Girth);
+// How often each search is timed.
+const TURNS: usize = 31;
+
+type Search = (&'static str, fn(&OwnedPlan, usize) -> Girth);
 
 const PROVED: Search = ("qcldpc_girth", proved);
 const CLOSED_WALKS: Search = ("closed walks in Rust", closed_walks);
 const HALFWAY: Search = ("halfway in C", halfway);
 
 // The girth that all searches tell; each shows a simple cycle of so many edges, where the plan fails.
-fn agreed(plan: &OwnedPlan, searches: &[Search]) -> Option<usize> {
-    let girth = proved(plan).girth();
+fn agreed(plan: &OwnedPlan, target: usize, searches: &[Search]) -> Option<usize> {
+    let girth = proved(plan, target).girth();
     for (name, search) in searches {
-        let answer = search(plan);
+        let answer = search(plan, target);
         assert_eq!(answer.girth(), girth, "{name} tells the same girth");
         if let Girth::Failed { checks, bits } = &answer {
             assert!(is_simple_cycle(plan, checks, bits), "{name} shows a simple cycle");
@@ -154,31 +156,31 @@ fn agreed(plan: &OwnedPlan, searches: &[Search]) -> Option<usize> {
     girth
 }
 
-// The median times of searches, in seconds, each run in turn so many times.
-fn medians(plan: &OwnedPlan, searches: &[Search], turns: usize) -> Vec<f64> {
+// The median times of searches, in seconds, each run in turn.
+fn medians(plan: &OwnedPlan, target: usize, searches: &[Search]) -> Vec<f64> {
     let mut times = vec![vec![]; searches.len()];
-    for _ in 0..turns {
+    for _ in 0..TURNS {
         for ((_, search), times) in searches.iter().zip(&mut times) {
             let begin = Instant::now();
-            black_box(search(black_box(plan)));
+            black_box(search(black_box(plan), black_box(target)));
             times.push(begin.elapsed().as_secs_f64());
         }
     }
     let median = |times: &mut Vec<f64>| {
         times.sort_by(f64::total_cmp);
-        times[turns / 2]
+        times[TURNS / 2]
     };
     times.iter_mut().map(median).collect()
 }
 
 // Prints the median of each search, and how many times as long the first takes as each other; gives the first's, in seconds.
-fn beside(name: &str, plan: &OwnedPlan, searches: &[Search], turns: usize) -> f64 {
-    let girth = agreed(plan, searches).map_or("12 or more".into(), |girth| girth.to_string());
+fn beside(name: &str, plan: &OwnedPlan, target: usize, searches: &[Search]) -> f64 {
+    let girth = agreed(plan, target, searches).map_or(format!("{target} or more"), |girth| girth.to_string());
     println!("{name}: {} x {}, lift {}, girth {girth}", plan.rows, plan.cols, plan.lift);
-    let times = medians(plan, searches, turns);
-    println!("  {} {:.2} ms", searches[0].0, times[0] * 1e3);
+    let times = medians(plan, target, searches);
+    println!("  {} {:.3} ms", searches[0].0, times[0] * 1e3);
     for ((name, _), time) in searches.iter().zip(&times).skip(1) {
-        println!("  {name} {:.2} ms, ratio {:.3}", time * 1e3, times[0] / time);
+        println!("  {name} {:.3} ms, ratio {:.3}", time * 1e3, times[0] / time);
     }
     times[0]
 }
@@ -241,17 +243,58 @@ fn changed(plan: &OwnedPlan, by: i16) -> OwnedPlan {
     plan
 }
 
-fn main() {
+// The plan of the first columns of a Steiner plan.
+fn first_columns(plan: &OwnedPlan, cols: usize) -> OwnedPlan {
+    let entries = plan.entries.chunks_exact(plan.cols).flat_map(|row| &row[..cols]).copied().collect();
+    OwnedPlan { entries, cols, ..*plan }
+}
+
+// A Steiner plan of order 19 that passes at 12: voltages are drawn column by column, those of a column until the columns so far
+// pass.
+fn steiner() -> OwnedPlan {
+    let (lift, cols) = (1000, 57);
+    let build = |voltages: &[i16]| OwnedPlan::steiner(19, lift, voltages).expect("voltages of the right number");
+    let mut sequence = Sequence(1);
+    let mut voltages = vec![0; 3 * cols];
+    let mut k = 0;
+    while k < cols {
+        voltages[3 * k..3 * k + 3].fill_with(|| (sequence.next() % lift as u64) as i16);
+        k += (proved(&first_columns(&build(&voltages), k + 1), 12) == Girth::Passed) as usize;
+    }
+    build(&voltages)
+}
+
+// Table plans, at 12.
+fn tables() {
     let (seven, six) = (cyclic_plan(7, 28, &[1; 49], 7), cyclic_plan(6, 19, &[1; 36], 6));
     let all = [PROVED, CLOSED_WALKS, HALFWAY];
-    let girths: Vec<_> = (0..19).map(|by| agreed(&changed(&six, by), &all)).collect();
+    let girths: Vec<_> = (0..19).map(|by| agreed(&changed(&six, by), 12, &all)).collect();
     assert!(girths.contains(&None) && girths.contains(&Some(8)), "some of these plans pass and some fail");
-    beside("cyclic table, J = 7, voltages below the lift", &seven, &all, 31);
-    beside("cyclic table, J = 7, voltages above the lift", &printed(&seven), &all, 31);
-    beside("cyclic table, J = 6, voltages below the lift", &six, &all, 31);
-    beside("cyclic table, J = 6, voltages above the lift", &printed(&six), &all, 31);
+    beside("cyclic table, J = 7, voltages below the lift", &seven, 12, &all);
+    beside("cyclic table, J = 7, voltages above the lift", &printed(&seven), 12, &all);
+    beside("cyclic table, J = 6, voltages below the lift", &six, 12, &all);
+    beside("cyclic table, J = 6, voltages above the lift", &printed(&six), 12, &all);
+}
+
+// The slowest plans that were found, at 12.
+fn slow_plans() {
     let slow = [("slow plan, grid", grid()), ("slow plan, hubs", hubs()), ("slow plan, plane", plane())];
-    let slowest = slow.iter().map(|(name, plan)| beside(name, plan, &[PROVED, HALFWAY], 31)).fold(0.0, f64::max);
+    let slowest = slow.iter().map(|(name, plan)| beside(name, plan, 12, &[PROVED, HALFWAY])).fold(0.0, f64::max);
     println!("the slowest plan found takes {slowest:.3} s, of the 3 s allowed");
     assert!(slowest < 3.0, "each of these plans keeps the limit");
+}
+
+// A Steiner plan at the target where it passes, at the next, and at the largest.
+fn steiner_plan() {
+    let plan = steiner();
+    for target in [12, 14, 18] {
+        let time = beside(&format!("Steiner plan of order 19, target {target}"), &plan, target, &[PROVED, HALFWAY]);
+        assert!(time < 0.5, "a verdict on a Steiner plan takes less than half a second");
+    }
+}
+
+fn main() {
+    tables();
+    slow_plans();
+    steiner_plan();
 }

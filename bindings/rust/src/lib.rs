@@ -66,6 +66,30 @@ pub struct OwnedPlan {
 }
 
 impl OwnedPlan {
+    /// The plan of an order (7, 9, 13, 15 or 19), a lift and voltages, as [`steiner`] builds it, in a place of its own; so 23
+    /// is about the voltages alone. Refusals 3, 4, 6 with the first place of a voltage below 0, 22, 23.
+    ///
+    /// The triples of order 7 are 0 1 3, 0 2 6, 0 4 5, 1 2 4, 1 5 6, 2 3 5 and 3 4 6, so point 0 has blocks in three columns,
+    /// with the voltages 0, 3 and 6:
+    ///
+    /// ```
+    /// use qcldpc::{girth, Girth, OwnedPlan, Refusal};
+    ///
+    /// let voltages: Vec<i16> = (0..21).collect();
+    /// let plan = OwnedPlan::steiner(7, 5, &voltages)?;
+    /// assert_eq!((plan.rows, plan.cols, plan.bits()), (7, 7, 35));
+    /// assert_eq!(plan.entries[..7], [0, 3, 1, -1, -1, -1, -1]);
+    /// assert_eq!(girth(&plan.lent(), 6), Ok(Girth::Passed));
+    /// assert_eq!(OwnedPlan::steiner(8, 5, &voltages), Err(Refusal { number: 22, values: vec![] }));
+    /// # Ok::<(), Refusal>(())
+    /// ```
+    pub fn steiner(order: usize, lift: usize, voltages: &[i16]) -> Result<OwnedPlan, Refusal> {
+        let places = if [7, 9, 13, 15, 19].contains(&order) { order * (order * (order - 1) / 6) } else { 0 };
+        let mut entries = vec![0; places];
+        let Built { rows, cols } = steiner(order, lift, voltages, &mut entries)?;
+        Ok(OwnedPlan { entries, rows, cols, lift })
+    }
+
     /// The plan, lent to a call.
     pub fn lent(&self) -> Plan<'_> {
         Plan { entries: &self.entries, rows: self.rows, cols: self.cols, lift: self.lift }
@@ -77,7 +101,7 @@ impl OwnedPlan {
     }
 }
 
-/// Why a call gives no result: a number from 1 to 21 (README.md, "Refusals") and its values.
+/// Why a call gives no result: a number from 1 to 23 (README.md, "Refusals") and its values.
 #[derive(Clone, Debug, PartialEq, Eq)]
 pub struct Refusal {
     pub number: u64,
@@ -144,17 +168,17 @@ pub fn check(plan: &Plan) -> Result<(), Refusal> {
     call(|out, len| unsafe { raw::qcldpc_check(p, n, rows, cols, lift, out, len) }, |_| ())
 }
 
-/// Whether no simple cycle has fewer edges than the target: 6, 8, 10 or 12. Where a plan fails, a shortest cycle is shown, so
-/// the answer tells its girth; which of the shortest it is, is free. Refusals 1 to 6, 14.
+/// Whether no simple cycle has fewer edges than the target: 6, 8, 10, 12, 14, 16 or 18. Where a plan fails, a shortest cycle is
+/// shown, so the answer tells its girth; which of the shortest it is, is free. Refusals 1 to 6, 14.
 ///
-/// The plan here has cycles of 8 edges and none shorter:
+/// The plan here has cycles of 16 edges and none shorter:
 ///
 /// ```
 /// use qcldpc::{girth, Girth, Plan};
 ///
-/// let plan = Plan { entries: &[0, 0, 0, 1], rows: 2, cols: 2, lift: 2 };
-/// assert_eq!(girth(&plan, 8), Ok(Girth::Passed));
-/// assert_eq!(girth(&plan, 12)?.girth(), Some(8));
+/// let plan = Plan { entries: &[0, 0, 0, 1], rows: 2, cols: 2, lift: 4 };
+/// assert_eq!(girth(&plan, 16), Ok(Girth::Passed));
+/// assert_eq!(girth(&plan, 18)?.girth(), Some(16));
 /// # Ok::<(), qcldpc::Refusal>(())
 /// ```
 pub fn girth(plan: &Plan, target: usize) -> Result<Girth, Refusal> {
@@ -240,7 +264,33 @@ pub fn build(order: usize, lift: usize, table: &[i16], mask: &[u8], plan: &mut [
             let (to, places) = (plan.as_mut_ptr(), plan.len());
             raw::qcldpc_build(order as u64, lift as u64, t.as_ptr(), t.len(), m.as_ptr(), m.len(), to, places, out, len)
         },
-        |out| Built { rows: out[0] as usize, cols: out[1] as usize },
+        sizes,
+    )
+}
+
+/// The plan of the supplied Steiner triple system of an order `v`: 7, 9, 13, 15 or 19. Rows are its points from 0, columns its
+/// `v·(v − 1)/6` triples, rising by first, second and third point. There is one voltage for each point of each triple, points
+/// rising within a triple; an entry is its voltage's remainder by the lift, or −1 where the point is not in the triple. The
+/// place has exactly `order × columns` numbers. [`OwnedPlan::steiner`] makes it itself.
+///
+/// Two points have one triple in common, so the plan passes at 6 whatever the voltages. Refusals 3, 4 (of the five orders), 6
+/// with the first place of a voltage below 0, 22, 23.
+///
+/// ```
+/// let voltages: Vec<i16> = (0..3 * 57).collect();
+/// let mut entries = vec![0; 19 * 57];
+/// let built = qcldpc::steiner(19, 1149, &voltages, &mut entries)?;
+/// assert_eq!((built.rows, built.cols), (19, 57));
+/// # Ok::<(), qcldpc::Refusal>(())
+/// ```
+pub fn steiner(order: usize, lift: usize, voltages: &[i16], plan: &mut [i16]) -> Result<Built, Refusal> {
+    let v = voltages;
+    call(
+        |out, len| unsafe {
+            let (to, places) = (plan.as_mut_ptr(), plan.len());
+            raw::qcldpc_steiner(order as u64, lift as u64, v.as_ptr(), v.len(), to, places, out, len)
+        },
+        sizes,
     )
 }
 
@@ -294,6 +344,11 @@ fn value_count(number: u64) -> usize {
         10 => 4,
         _ => 0,
     }
+}
+
+// The rows and columns that a builder tells.
+fn sizes(out: &[u64]) -> Built {
+    Built { rows: out[0] as usize, cols: out[1] as usize }
 }
 
 // The two counts of the decoder and of the preview.

@@ -1,4 +1,4 @@
-//! The eleven functions as `include/qcldpc.h` declares them: a slice passes as a pointer, then its length.
+//! The twelve functions as `include/qcldpc.h` declares them: a slice passes as a pointer, then its length.
 //! Nothing is asked of numbers and bytes; each pointer goes with the length of its memory, and memory that is written
 //! overlaps no other. A call returns within 1 MiB of stack.
 
@@ -79,6 +79,17 @@ extern "C" {
         table_len: usize,
         mask: *const u8,
         mask_len: usize,
+        plan: *mut i16,
+        plan_len: usize,
+        out: *mut u64,
+        out_len: usize,
+    ) -> u64;
+
+    pub fn qcldpc_steiner(
+        order: u64,
+        lift: u64,
+        voltages: *const i16,
+        voltages_len: usize,
         plan: *mut i16,
         plan_len: usize,
         out: *mut u64,

@@ -3,8 +3,10 @@
 mod lowered; // lowered.rt: a matrix with P lowered, so that voltages stand at or above it
 mod say; // say.rt: what is written
 mod source000; // source000.rt: the degree matrices of source 000
+mod source000_sts; // source000_sts.rt: the degree matrices of source 000 from Steiner triple systems
 mod source001; // source001.rt: the labelings of source 001
 mod source002; // source002.rt: the example of source 002
+mod steiner_plans; // steiner_plans.rt: Steiner triple plans
 mod tables; // tables.rt: table plans, and source 004's examples
 mod text; // text.rt: alist text
 
@@ -21,4 +23,10 @@ fn main() {
     source000::table_three();
     source000::table_four();
     source000::table_five();
+    source000_sts::table_six();
+    steiner_plans::orders_seven_and_nine();
+    steiner_plans::orders_thirteen_and_fifteen();
+    steiner_plans::order_nineteen();
+    steiner_plans::turned_away();
+    steiner_plans::negative();
 }

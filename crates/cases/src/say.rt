@@ -32,7 +32,7 @@ pub fn refused(r: Refusal) {
 }
 
 // The largest target: a plan that fails there shows its girth.
-pub const LARGEST: usize = 12;
+pub const LARGEST: usize = 18;
 
 // The verdict at a target; of a plan that fails, its girth.
 pub fn judged(plan: &[i16], rows: usize, cols: usize, lift: usize, target: usize) {
@@ -46,6 +46,23 @@ pub fn judged(plan: &[i16], rows: usize, cols: usize, lift: usize, target: usize
         }
         Outcome::Refused(r) => refused(r),
     }
+}
+
+// The verdicts at a target and, where it is below that, at the largest.
+pub fn verdicts(plan: &[i16], rows: usize, cols: usize, lift: usize, target: usize) {
+    judged(plan, rows, cols, lift, target);
+    if target < LARGEST {
+        say(b", ");
+        judged(plan, rows, cols, lift, LARGEST);
+    }
+}
+
+// The sizes of a plan that was built, and its verdicts.
+pub fn built(plan: &[i16], rows: usize, cols: usize, lift: usize, target: usize) {
+    number(b"", rows);
+    number(b" x ", cols);
+    say(b", ");
+    verdicts(plan, rows, cols, lift, target);
 }
 
 fn short(n: usize) -> usize

@@ -3,10 +3,9 @@
 // Each is judged at its printed girth and, where that is below the largest target, there; then with P lowered.
 ghost use Prim.Native.Nat.{_≤_};
 use crate::lowered::lowered;
-use crate::say::LARGEST;
-use crate::say::judged;
 use crate::say::number;
 use crate::say::say;
+use crate::say::verdicts;
 
 // Table II: girth 6.
 const II_K4_M5: [[i16; 11]; 2] = [
@@ -268,12 +267,12 @@ fn put_row(row: [i16; 11], start: usize, cols: usize, plan: &mut [i16; 36])
     }
 }
 
-// The verdict on the plan of three rows.
-fn verdict(plan: [i16; 36], cols: usize, lift: usize, target: usize)
+// The verdicts on the plan of three rows.
+fn of_three_rows(plan: [i16; 36], cols: usize, lift: usize, girth: usize)
     requires { ⌜ cols ≤ 12 ⌝ }
 {
     let size = 3 * cols;
-    judged(&plan[0..size], 3, cols, lift, target);
+    verdicts(&plan[0..size], 3, cols, lift, girth);
 }
 
 // The verdicts with P lowered.
@@ -296,11 +295,7 @@ fn code(girth: usize, cols: usize, lift: usize, rows: [[i16; 11]; 2])
     number(b", K = ", cols);
     number(b", M = ", lift);
     say(b": ");
-    verdict(plan, cols, lift, girth);
-    if girth < LARGEST {
-        say(b", ");
-        verdict(plan, cols, lift, LARGEST);
-    }
+    of_three_rows(plan, cols, lift, girth);
     with_less(plan, cols);
     say(b"\n");
 }

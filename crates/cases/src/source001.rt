@@ -2,10 +2,9 @@
 // printed for a row stands at the row's i-th nonzero entry. Each is judged at its girth and at the largest target, then with P
 // lowered.
 use crate::lowered::lowered;
-use crate::say::LARGEST;
-use crate::say::judged;
 use crate::say::number;
 use crate::say::say;
+use crate::say::verdicts;
 
 // Table II, rate 1/4: the code (168, 42), with its printed girth 8.
 const II_M21: [[i16; 8]; 6] = [
@@ -47,9 +46,9 @@ fn put_rows(rows: [[i16; 8]; 6], plan: &mut [i16; 48]) {
     }
 }
 
-// The verdict on a plan of (6).
-fn verdict(plan: [i16; 48], lift: usize, target: usize) {
-    judged(&plan, 6, 8, lift, target);
+// The verdicts on a plan of (6).
+fn of_six(plan: [i16; 48], lift: usize, girth: usize) {
+    verdicts(&plan, 6, 8, lift, girth);
 }
 
 // The verdicts with P lowered.
@@ -63,9 +62,7 @@ fn labeling(girth: usize, lift: usize, rows: [[i16; 8]; 6]) {
     put_rows(rows, &mut plan);
     number(b", M = ", lift);
     say(b": ");
-    verdict(plan, lift, girth);
-    say(b", ");
-    verdict(plan, lift, LARGEST);
+    of_six(plan, lift, girth);
     with_less(plan);
     say(b"\n");
 }

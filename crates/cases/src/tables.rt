@@ -1,8 +1,10 @@
-// The table plans of document 01's bench cases and of source 004's examples, each judged at 12.
-use crate::say::judged;
+// The table plans of document 01's bench cases and of source 004's examples, each judged at 12 and at the largest target, which
+// shows that their girth is 12.
+use crate::say::built;
 use crate::say::number;
 use crate::say::refused;
 use crate::say::say;
+use crate::say::verdicts;
 use crate::text::same_text;
 use table::Built;
 
@@ -14,7 +16,7 @@ fn supply(cyclic: bool, order: usize, square: &mut [i16]) {
     }
 }
 
-// Builds the plan of a supplied table in a lent place, and judges it at 12.
+// Builds the plan of a supplied table in a lent place, and judges it at 12 and at the largest target.
 fn build(
     cyclic: bool,
     order: usize,
@@ -31,14 +33,10 @@ fn build(
     number(b", P = ", lift);
     say(b": ");
     supply(cyclic, order, square);
-    let built = table::build(order, lift, square, mask, plan);
-    match built {
+    match table::build(order, lift, square, mask, plan) {
         Built::Refused(r) => refused(r),
         Built::Built { rows, cols } => {
-            number(b"", rows);
-            number(b" x ", cols);
-            say(b", ");
-            judged(plan, rows, cols, lift, 12);
+            built(plan, rows, cols, lift, 12);
         }
     }
     say(b"\n");
@@ -96,7 +94,7 @@ pub fn printed() {
     table::build(7, 100, &square, &mask, &mut plan);
     table::build(7, 7, &square, &mask, &mut reduced);
     say(b"cyclic 7 as printed, P = 7: ");
-    judged(&plan, 126, 252, 7, 12);
+    verdicts(&plan, 126, 252, 7, 12);
     say(b", ");
     same_text(&plan, &reduced, 126, 252, 7);
     say(b"\n");

@@ -1,10 +1,12 @@
--- The girth lines of document 01's bench cases, and a plan with cycles of two lengths: the model's answer, computed. Assumes nothing.
-use Prim.Native.Nat.{ℕ, _≤_}
+-- The girth lines of document 01's bench cases, a plan with cycles of two lengths, and targets 14 to 18: the model's answer, computed.
+-- Assumes nothing.
+use Prim.Native.Nat.{ℕ, _-_, _≤_}
 use mathlib.Core.Path.{_≡_, refl}
-use mathlib.Core.List.{List, [], _∷_}
+use mathlib.Core.List.{List, [], _∷_, _++_}
 use mathlib.Core.Option.{none}
 use native.Mathlib.Omega.{arith}
 use lib.IntN.{ℤ}
+use lib.ListN.{replicate}
 use Rattle.refusal.specs.declared.Refusal.the-variants.{Lift}
 use Rattle.refusal.specs.Lowest.{lowest}
 use Rattle.refusal.specs.Place.{firstPlace}
@@ -16,7 +18,7 @@ use Rattle.exponent.specs.Plan.{shifts, entryAt, blockAt}
 use Rattle.exponent.specs.Tanner.{tanner}
 use Rattle.walks.specs.Ways.{each, fromBit, ways}
 use Rattle.walks.specs.Meeting.{repeat, backAlong, meeting, firstOf, shortCycle}
-use Rattle.walks.specs.Trail.{lay}
+use Rattle.walks.specs.Trail.{places, lay}
 use Rattle.girth.specs.declared.GirthTest.{GirthTest}
 use Rattle.girth.specs.declared.Outcome.the-variants.{Passed, Failed, Refused}
 use Rattle.girth.specs.Test.{allowed, testRules, without-witness, Answer, refused, passed, failed}
@@ -34,25 +36,30 @@ abbrev case : List ℕ → ℕ → ℕ → ℕ → ℕ → GirthTest → Case
 case l rows cols lift target answer = record { plan = shifts l; rows = rows; cols = cols; lift = lift; target = target; answer = answer }
 
 abbrev shows : ℕ → List ℕ → List ℕ → GirthTest
-shows n checks bits = record { outcome = Failed; n = n; checks = checks; bits = bits }
+shows n checks bits =
+    let unused : List ℕ = replicate (places - n) 0 in
+    record { outcome = Failed; n = n; checks = checks ++ unused; bits = bits ++ unused }
 
 -- 0 0 0 / 0 1 1: at lift 2 its columns 0 and 1 have a cycle of 8 edges, its columns 1 and 2 one of 4
 abbrev two-lengths : List ℕ
 two-lengths = 0 ∷ 0 ∷ 0 ∷ 0 ∷ 1 ∷ 1 ∷ []
 
 -- the 2 × 2 plan of zeros; 0 0 / 0 1, which closes on the second round at lift 2; 0 0 / 0 2; 002's example 1; one row; lift 4,097;
--- cycles of two lengths
+-- cycles of two lengths; 0 0 / 0 1 at lifts 3 and 4, where it closes after 12 and 16 edges, which fills all places
 abbrev pub cases : List Case
 cases =
-    case (0 ∷ 0 ∷ 0 ∷ 0 ∷ []) 2 2 1 6 (shows 2 (1 ∷ 0 ∷ 0 ∷ 0 ∷ 0 ∷ []) (0 ∷ 1 ∷ 0 ∷ 0 ∷ 0 ∷ []))
+    case (0 ∷ 0 ∷ 0 ∷ 0 ∷ []) 2 2 1 6 (shows 2 (1 ∷ 0 ∷ []) (0 ∷ 1 ∷ []))
     ∷ case (0 ∷ 0 ∷ 0 ∷ 1 ∷ []) 2 2 2 8 (without-witness Passed)
-    ∷ case (0 ∷ 0 ∷ 0 ∷ 1 ∷ []) 2 2 2 10 (shows 4 (1 ∷ 2 ∷ 0 ∷ 3 ∷ 0 ∷ []) (3 ∷ 0 ∷ 2 ∷ 1 ∷ 0 ∷ []))
+    ∷ case (0 ∷ 0 ∷ 0 ∷ 1 ∷ []) 2 2 2 10 (shows 4 (1 ∷ 2 ∷ 0 ∷ 3 ∷ []) (3 ∷ 0 ∷ 2 ∷ 1 ∷ []))
     ∷ case (0 ∷ 0 ∷ 0 ∷ 1 ∷ []) 2 2 3 12 (without-witness Passed)
-    ∷ case (0 ∷ 0 ∷ 0 ∷ 2 ∷ []) 2 2 4 10 (shows 4 (2 ∷ 4 ∷ 0 ∷ 6 ∷ 0 ∷ []) (6 ∷ 0 ∷ 4 ∷ 2 ∷ 0 ∷ []))
-    ∷ case (0 ∷ 0 ∷ 0 ∷ 0 ∷ 0 ∷ 0 ∷ 1 ∷ 1 ∷ 0 ∷ 1 ∷ 0 ∷ 1 ∷ []) 3 4 2 6 (shows 2 (2 ∷ 0 ∷ 0 ∷ 0 ∷ 0 ∷ []) (0 ∷ 2 ∷ 0 ∷ 0 ∷ 0 ∷ []))
+    ∷ case (0 ∷ 0 ∷ 0 ∷ 2 ∷ []) 2 2 4 10 (shows 4 (2 ∷ 4 ∷ 0 ∷ 6 ∷ []) (6 ∷ 0 ∷ 4 ∷ 2 ∷ []))
+    ∷ case (0 ∷ 0 ∷ 0 ∷ 0 ∷ 0 ∷ 0 ∷ 1 ∷ 1 ∷ 0 ∷ 1 ∷ 0 ∷ 1 ∷ []) 3 4 2 6 (shows 2 (2 ∷ 0 ∷ []) (0 ∷ 2 ∷ []))
     ∷ case (0 ∷ 0 ∷ 0 ∷ []) 1 3 4096 12 (without-witness Passed)
     ∷ case (0 ∷ []) 1 1 4097 12 (without-witness (Refused Lift))
-    ∷ case two-lengths 2 3 2 10 (shows 2 (3 ∷ 0 ∷ 0 ∷ 0 ∷ 0 ∷ []) (2 ∷ 4 ∷ 0 ∷ 0 ∷ 0 ∷ []))
+    ∷ case two-lengths 2 3 2 10 (shows 2 (3 ∷ 0 ∷ []) (2 ∷ 4 ∷ []))
+    ∷ case (0 ∷ 0 ∷ 0 ∷ 1 ∷ []) 2 2 3 14 (shows 6 (4 ∷ 1 ∷ 3 ∷ 0 ∷ 5 ∷ 2 ∷ []) (1 ∷ 4 ∷ 0 ∷ 3 ∷ 2 ∷ 5 ∷ []))
+    ∷ case (0 ∷ 0 ∷ 0 ∷ 1 ∷ []) 2 2 4 16 (without-witness Passed)
+    ∷ case (0 ∷ 0 ∷ 0 ∷ 1 ∷ []) 2 2 4 18 (shows 8 (2 ∷ 5 ∷ 1 ∷ 4 ∷ 0 ∷ 7 ∷ 3 ∷ 6 ∷ []) (6 ∷ 1 ∷ 5 ∷ 0 ∷ 4 ∷ 3 ∷ 7 ∷ 2 ∷ []))
     ∷ []
 
 abbrev pub Computed : List Case → Type 0
@@ -61,7 +68,7 @@ Computed (c ∷ l) = (model (c .plan) (c .rows) (c .cols) (c .lift) (c .target) 
 
 pub computed : Computed cases
 unfolding model lowest testRules planRules firstPlace allowed member entryAt blockAt shortest shortCycle firstOf meeting repeat ways fromBit each backAlong lay
-computed = (refl, (refl, (refl, (refl, (refl, (refl, (refl, (refl, (refl, tt)))))))))
+computed = (refl, (refl, (refl, (refl, (refl, (refl, (refl, (refl, (refl, (refl, (refl, (refl, tt))))))))))))
 
 -- of the plan with two lengths every answer that the contract allows, however it was found, shows a cycle of 4 edges
 

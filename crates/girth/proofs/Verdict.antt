@@ -73,12 +73,15 @@ laid-out : (n z : ℕ) (l : List Joint) → length l ≤ places
     → (witness n (lay z l) .checks ≡ checksIn l ++ replicate (places - length l) 0) × (witness n (lay z l) .bits ≡ bitsIn l ++ replicate (places - length l) 0)
 unfolding lay
 laid-out n z [] h = (refl, refl)
-laid-out n z (a ∷ []) h = (refl, refl)
-laid-out n z (a ∷ b ∷ []) h = (refl, refl)
-laid-out n z (a ∷ b ∷ c ∷ []) h = (refl, refl)
-laid-out n z (a ∷ b ∷ c ∷ d ∷ []) h = (refl, refl)
-laid-out n z (a ∷ b ∷ c ∷ d ∷ e ∷ []) h = (refl, refl)
-laid-out n z (a ∷ b ∷ c ∷ d ∷ e ∷ f ∷ l) h = absurd (let q : ⊥ = omega arith in q)
+laid-out n z (x0 ∷ []) h = (refl, refl)
+laid-out n z (x0 ∷ x1 ∷ []) h = (refl, refl)
+laid-out n z (x0 ∷ x1 ∷ x2 ∷ []) h = (refl, refl)
+laid-out n z (x0 ∷ x1 ∷ x2 ∷ x3 ∷ []) h = (refl, refl)
+laid-out n z (x0 ∷ x1 ∷ x2 ∷ x3 ∷ x4 ∷ []) h = (refl, refl)
+laid-out n z (x0 ∷ x1 ∷ x2 ∷ x3 ∷ x4 ∷ x5 ∷ []) h = (refl, refl)
+laid-out n z (x0 ∷ x1 ∷ x2 ∷ x3 ∷ x4 ∷ x5 ∷ x6 ∷ []) h = (refl, refl)
+laid-out n z (x0 ∷ x1 ∷ x2 ∷ x3 ∷ x4 ∷ x5 ∷ x6 ∷ x7 ∷ []) h = (refl, refl)
+laid-out n z (x0 ∷ x1 ∷ x2 ∷ x3 ∷ x4 ∷ x5 ∷ x6 ∷ x7 ∷ x8 ∷ l) h = absurd (let q : ⊥ = omega arith in q)
 
 -- what an allowed target is to the search: it is even, and its rounds fit in the places
 pub record Rounds (target : ℕ) : Type 0 where
@@ -91,7 +94,10 @@ rounds-of t (inl e) = omega arith
 rounds-of t (inr (inl e)) = omega arith
 rounds-of t (inr (inr (inl e))) = omega arith
 rounds-of t (inr (inr (inr (inl e)))) = omega arith
-rounds-of t (inr (inr (inr (inr m)))) = absurd m
+rounds-of t (inr (inr (inr (inr (inl e))))) = omega arith
+rounds-of t (inr (inr (inr (inr (inr (inl e)))))) = omega arith
+rounds-of t (inr (inr (inr (inr (inr (inr (inl e))))))) = omega arith
+rounds-of t (inr (inr (inr (inr (inr (inr (inr m))))))) = absurd m
 
 pub allowed-rounds : (target : ℕ) → allowed target ≡ true → Rounds target
 unfolding allowed

@@ -11,7 +11,7 @@ use Rattle.walks.specs.Steps.{blocksOf}
 use Rattle.walks.specs.Calls.{searchCalls, searchBound}
 use Rattle.girth.specs.Test.{testRules}
 
--- the rounds of a target, from 2 on: 1 at 6, up to 4 at 12
+-- the rounds of a target, from 2 on: 1 at 6, up to 7 at 18
 abbrev pub rounds : ℕ → ℕ
 rounds target = target / 2 - 2
 

@@ -19,8 +19,8 @@ witness n t =
     record {
       outcome = Failed;
       n = n;
-      checks = t .c0 ∷ t .c1 ∷ t .c2 ∷ t .c3 ∷ t .c4 ∷ [];
-      bits = t .b0 ∷ t .b1 ∷ t .b2 ∷ t .b3 ∷ t .b4 ∷ [];
+      checks = t .c0 ∷ t .c1 ∷ t .c2 ∷ t .c3 ∷ t .c4 ∷ t .c5 ∷ t .c6 ∷ t .c7 ∷ [];
+      bits = t .b0 ∷ t .b1 ∷ t .b2 ∷ t .b3 ∷ t .b4 ∷ t .b5 ∷ t .b6 ∷ t .b7 ∷ [];
     }
 
 abbrev pub unlessFound : ℕ → Result → GirthTest → GirthTest

@@ -21,7 +21,7 @@ use Rattle.girth.specs.declared.Outcome.the-variants.{Passed, Failed, Re
 
 -- the targets that are allowed
 abbrev pub targets : List ℕ
-targets = 6 ∷ 8 ∷ 10 ∷ 12 ∷ []
+targets = 6 ∷ 8 ∷ 10 ∷ 12 ∷ 14 ∷ 16 ∷ 18 ∷ []
 
 unfoldable pub allowed : ℕ → Bool
 unfolding member

@@ -37,6 +37,9 @@ fn is_allowed(target: usize) -> bool
         8 => true,
         10 => true,
         12 => true,
+        14 => true,
+        16 => true,
+        18 => true,
         _ => false,
     }
 }

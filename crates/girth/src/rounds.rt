@@ -20,8 +20,8 @@ fn witness(n: usize, t: Trail) -> GirthTest
     GirthTest {
         outcome,
         n,
-        checks: [t.c0, t.c1, t.c2, t.c3, t.c4],
-        bits: [t.b0, t.b1, t.b2, t.b3, t.b4],
+        checks: [t.c0, t.c1, t.c2, t.c3, t.c4, t.c5, t.c6, t.c7],
+        bits: [t.b0, t.b1, t.b2, t.b3, t.b4, t.b5, t.b6, t.b7],
     }
 }
 

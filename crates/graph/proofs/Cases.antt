@@ -14,6 +14,7 @@ use Rattle.graph.specs.Graph.{Bipartite, Joined, bitsOf, checksOf}
 use Rattle.graph.specs.Girth.{SimpleCycle, Passes, IsGirth}
 use Rattle.graph.specs.Stopping.{Stopping, ThreeChecks, girth-6}
 use Rattle.graph.proofs.Decide.{by-eq, both-ways, and-left, and-right, and-both}
+use Rattle.graph.proofs.Cycles.{passes-6}
 use Rattle.graph.proofs.Tree.{stopping-least}
 
 -- every number below n passes the test
@@ -92,15 +93,6 @@ fano = record { checks = 7; bits = 7; joins = λ c b. let d = (b + 7 - c) % 7 in
 pub fano-three : ThreeChecks fano
 unfolding ThreeChecks checksOf select range
 fano-three b h = leb-true 3 (length (checksOf fano b)) (all-at 7 (λ b. leb 3 (length (checksOf fano b))) refl b h)
-
--- no two checks join the same two bits: girth 6 at least
-passes-6 : (G : Bipartite) → ((c d a b : ℕ) → Joined G c a → Joined G d a → Joined G d b → Joined G c b → c ≢ d → a ≢ b → ⊥) → Passes G 6
-unfolding Passes
-passes-6 G none zero cs bs y = absurd (omega (arith, y .least))
-passes-6 G none (suc zero) cs bs y = absurd (omega (arith, y .least))
-passes-6 G none (suc (suc zero)) cs bs y =
-    absurd (none (getD cs 0 0) (getD cs 1 0) (getD bs 0 0) (getD bs 1 0) (y .forth 0 (omega arith)) (y .back 0 (omega arith)) (y .forth 1 (omega arith)) (y .closes) (y .checks-differ 0 1 (omega arith) (omega arith)) (y .bits-differ 0 1 (omega arith) (omega arith)))
-passes-6 G none (suc (suc (suc n))) cs bs y = omega arith
 
 -- the four edges of a square are not all there, unless its checks or its bits are the same
 abbrev no-square? : ℕ → ℕ → ℕ → ℕ → Bool

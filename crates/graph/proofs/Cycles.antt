@@ -1,7 +1,7 @@
 -- From a closed walk to a simple cycle as lists of checks and bits. Assumes nothing.
 use Prim.Native.Nat.{ℕ, zero, suc, _+_, _*_, _≤_, _<_}
 use mathlib.Core.Path.{_≡_, refl, sym, ap, subst, _∙_}
-use mathlib.Core.Logic.{inl, inr}
+use mathlib.Core.Logic.{_≢_, inl, inr}
 use mathlib.Core.List.{List, [], _∷_, _++_}
 use mathlib.Core.Option.{Option, none, some, Option·none-ne-some}
 use native.Mathlib.Omega.{arith}
@@ -182,3 +182,12 @@ module _ (G : Bipartite) where
       let p = a .none-shorter (b .n) (b .checks) (b .bits) (b .cycle) in
       let q = b .none-shorter (a .n) (a .checks) (a .bits) (a .cycle) in
       omega (arith, p, q, a .edges, b .edges)
+
+-- no two checks join the same two bits: girth 6 at least
+pub passes-6 : (G : Bipartite) → ((c d a b : ℕ) → Joined G c a → Joined G d a → Joined G d b → Joined G c b → c ≢ d → a ≢ b → ⊥) → Passes G 6
+unfolding Passes
+passes-6 G apart zero cs bs y = absurd (omega (arith, y .least))
+passes-6 G apart (suc zero) cs bs y = absurd (omega (arith, y .least))
+passes-6 G apart (suc (suc zero)) cs bs y =
+    absurd (apart (getD cs 0 0) (getD cs 1 0) (getD bs 0 0) (getD bs 1 0) (y .forth 0 (omega arith)) (y .back 0 (omega arith)) (y .forth 1 (omega arith)) (y .closes) (y .checks-differ 0 1 (omega arith) (omega arith)) (y .bits-differ 0 1 (omega arith) (omega arith)))
+passes-6 G apart (suc (suc (suc n))) cs bs y = omega arith

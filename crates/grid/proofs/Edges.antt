@@ -51,7 +51,7 @@ module _ (P e : ℕ) (low : e < P) where
   entry-filled true = refl
   entry-filled false = refl
 
-  entry-edge : (m : Bool) (y z : ℕ) → edge (blockOf P (block m e)) P y z ≡ true → (m ≡ true) × (z ≡ (y + e) % P)
+  pub entry-edge : (m : Bool) (y z : ℕ) → edge (blockOf P (block m e)) P y z ≡ true → (m ≡ true) × (z ≡ (y + e) % P)
   entry-edge true y z h = (refl, sym (eqb-true _ _ (sym (ap (λ (b : Block). edge b P y z) shift-is) ∙ h)))
   entry-edge false y z h = both-ways {t = false} h refl
 

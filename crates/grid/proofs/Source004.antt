@@ -13,13 +13,14 @@ use borrow.Author.Tests.{eqb-true, lt-ltb, le-ltb, ltb-true, not-true}
 use Rattle.refusal.specs.Place.{firstPlace, somewhere}
 use Rattle.refusal.proofs.Place.{at-first}
 use Rattle.graph.specs.Count.{range, below, select, one, member, isSome, Mem}
-use Rattle.graph.proofs.Decide.{by-bool, by-eq, by-le, both-ways, and-left, and-right, same-bool}
-use Rattle.graph.proofs.Lists.{mem-left, mem-append, getD-mem}
+use Rattle.graph.proofs.Decide.{by-bool, by-le, both-ways, and-left, and-right, same-bool}
+use Rattle.graph.proofs.Lists.{mem-left, mem-right, mem-append, getD-mem}
 use Rattle.graph.proofs.Count.{mem-range, range-mem, range-append, select-append, member-mem, mem-member}
 use Rattle.exponent.proofs.Numbers.{block-of, place-of, number-low}
 use Rattle.square.specs.Each.{each, upon, grid}
 use Rattle.square.specs.Table.{block}
 use Rattle.square.specs.Mask.{maskAt, Common}
+use Rattle.square.proofs.Each.{mem-each, each-mem, mem-upon}
 use Rattle.square.proofs.Places.{digit, first-digit}
 use Rattle.square.proofs.Totals.{tally}
 use Rattle.grid.specs.declared.Part.{Part}
@@ -78,31 +79,6 @@ grid-map {B = B} {N = N} f g h p q e (a ∷ al) bs =
     line : (bs : List B) → map h (map (f a) bs) ≡ map (g (p a)) (map q bs)
     line [] = refl
     line (b ∷ bs) = ap₂ (λ (x : N) (l : List N). x ∷ l) (e a b) (line bs)
-
-module _ {A : Type 0} where
-  mem-each : (x : A) (n : ℕ) (f : ℕ → List A) → Mem x (each n f) → (i : ℕ) × (i < n) × Mem x (f i)
-  mem-each x zero f m = absurd m
-  mem-each x (suc n) f m = go (mem-append x (each n f) (f n) m) (mem-each x n f)
-    where
-      go : Mem x (each n f) ⊎ Mem x (f n) → (Mem x (each n f) → (i : ℕ) × (i < n) × Mem x (f i)) → (i : ℕ) × (i < suc n) × Mem x (f i)
-      go (inl k) more = let r : (i : ℕ) × (i < n) × Mem x (f i) = more k in (r .0, omega arith, r .2)
-      go (inr k) more = (n, omega arith, k)
-
-  mem-right : (x : A) (p q : List A) → Mem x q → Mem x (p ++ q)
-  mem-right x [] q m = m
-  mem-right x (y ∷ p) q m = inr (mem-right x p q m)
-
-  each-mem : (x : A) (n : ℕ) (f : ℕ → List A) (i : ℕ) → i < n → Mem x (f i) → Mem x (each n f)
-  each-mem x zero f i h m = absurd (let z : ⊥ = omega arith in z)
-  each-mem x (suc n) f i h m =
-      by-eq i n
-      (λ e. mem-right x (each n f) (f n) (subst (λ (k : ℕ). Mem x (f k)) e m))
-      (λ d. mem-left x (each n f) (f n) (each-mem x n f i (omega arith) m))
-
-  mem-upon : (x y : A) (b : Bool) → Mem x (upon b (y ∷ [])) → (b ≡ true) × (x ≡ y)
-  mem-upon x y true (inl e) = (refl, e)
-  mem-upon x y true (inr m) = absurd m
-  mem-upon x y false m = absurd m
 
 map-mem : {A : Type 0} (g : ℕ → A) (n : ℕ) (l : List ℕ) → Mem n l → Mem (g n) (map g l)
 map-mem g n [] m = m

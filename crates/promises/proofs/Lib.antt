@@ -6,9 +6,11 @@ pub mod WordRows
 pub mod Tokens
 pub mod TextRows
 pub mod Texts
+pub mod SteinerRows
 pub mod One
 pub mod Three
 pub mod Table
+pub mod Steiner
 pub mod Cases
 pub mod Counts
 pub mod Remainders

@@ -27,6 +27,8 @@ use Rattle.square.specs.Table.{suppliedTable}
 use Rattle.square.specs.Mask.{weight}
 use Rattle.table.specs.Build.{lent, supplyRules, supplied, buildRules, builtPlan, built}
 use Rattle.table.proofs.Plans as table-rules
+use Rattle.steiner.specs.Build as steiner-build
+use Rattle.steiner.proofs.Plans as steiner-rules
 use Rattle.alist.specs.Calls.{alistText, writeRules, written, laid, comparison}
 use Rattle.alist.proofs.Answers as text-rules
 use Rattle.promises.specs.TurnedAway.{LowestOf}
@@ -35,6 +37,7 @@ use Rattle.promises.proofs.Matching.{Matches, lowest-of}
 use Rattle.promises.proofs.PlanRows.{plan-matches, test-matches}
 use Rattle.promises.proofs.WordRows.{check-matches, fill-matches}
 use Rattle.promises.proofs.TableRows.{supply-matches, build-matches}
+use Rattle.promises.proofs.SteinerRows.{steiner-matches}
 use Rattle.promises.proofs.TextRows.{write-matches, compare-matches}
 
 -- an answer carries the refusal that it was made from
@@ -61,6 +64,10 @@ in-supplied (some r) = refl
 in-built : (o : Option Refusal) (order L : ℕ) → ofBuilt (built o order L) ≡ o
 in-built none order L = refl
 in-built (some r) order L = refl
+
+in-steiner : (o : Option Refusal) (order : ℕ) → ofBuilt (steiner-build.built o order) ≡ o
+in-steiner none order = refl
+in-steiner (some r) order = refl
 
 in-written : (n : ℕ) (o : Option Refusal) → ofWritten (written n o) ≡ o
 in-written n none = refl
@@ -116,6 +123,11 @@ promise-1 =
       build = λ order lift table mask plan. (
         answered _ _ _ (table-rules.rules-rise order lift table mask (length plan)) (build-matches order lift table mask (length plan)) (in-built _ _ _),
         kept (λ o. lent o (builtPlan order lift table mask) plan) plan (λ r. refl) _ _ (in-built (lowest (buildRules order lift table mask (length plan))) order (weight order mask)),
+      );
+      steiner = λ order lift voltages plan. (
+        answered _ _ _ (steiner-rules.rules-rise order lift voltages (length plan)) (steiner-matches order lift voltages (length plan)) (in-steiner _ _),
+        kept (λ o. lent o (steiner-build.steinerPlan order lift voltages) plan) plan (λ r. refl) _ _
+            (in-steiner (lowest (steiner-build.buildRules order lift voltages (length plan))) order),
       );
       write = λ plan rows cols lift place. (
         answered _ _ _ (text-rules.write-rise plan rows cols lift place) (write-matches plan rows cols lift place) (in-written _ _),

@@ -2,7 +2,7 @@
 use Prim.Native.Nat.{ℕ, zero, suc, _*_}
 use mathlib.Core.Path.{_≡_, refl, ap}
 use mathlib.Core.Logic.{_↔_, inl, _≢_}
-use mathlib.Core.Bool.{true, false, not, _||_}
+use mathlib.Core.Bool.{true, false, not}
 use mathlib.Core.List.{List, [], _∷_}
 use borrow.Author.Tests.{ltb-true, lt-ltb, eqb-false, ne-eqb, not-true}
 use lib.Dec.{ltb, eqb}
@@ -18,7 +18,7 @@ use Rattle.graph.proofs.Decide.{both-ways, neither}
 use Rattle.exponent.specs.Plan.{invalidEntry}
 use Rattle.exponent.specs.Limits.{outside, planRules}
 use Rattle.exponent.proofs.Rules.{outside-exactly}
-use Rattle.girth.specs.Test.{allowed, testRules}
+use Rattle.girth.specs.Test.{targets, allowed, testRules}
 use Rattle.promises.specs.TurnedAway.{row-3, BelowMinusOne, is-below, PlanRow, row-1, row-2, of-lift, row-4, row-5, row-6, TargetRow, row-14, _or_}
 use Rattle.promises.proofs.Matching.{Listed, RowOf, Matches, join, by-rule, no-rule, at-rule, further, one-rule}
 
@@ -73,16 +73,25 @@ module _ (plan : List ℤ) (rows cols lift : ℕ) where
   plan-matches = record { listed = λ s i. inl (listed s i); applies = applies }
 
 -- 14
-target-exactly : (target : ℕ) → (not (allowed target) ≡ true) ↔ ((target ≢ 6) × (target ≢ 8) × (target ≢ 10) × (target ≢ 12))
+abbrev NoTarget : ℕ → Type 0
+NoTarget t = (t ≢ 6) × (t ≢ 8) × (t ≢ 10) × (t ≢ 12) × (t ≢ 14) × (t ≢ 16) × (t ≢ 18)
+
+target-exactly : (target : ℕ) → (not (allowed target) ≡ true) ↔ NoTarget target
 unfolding allowed member
-target-exactly t = (λ e. none-of (not-true _ e), λ (p, q, r, s). rw (ne-eqb t 6 p, ne-eqb t 8 q, ne-eqb t 10 r, ne-eqb t 12 s))
+target-exactly t = (
+  λ e. none-of (not-true _ e),
+  λ (p, q, r, s, u, v, w). rw (ne-eqb t 6 p, ne-eqb t 8 q, ne-eqb t 10 r, ne-eqb t 12 s, ne-eqb t 14 u, ne-eqb t 16 v, ne-eqb t 18 w),
+)
   where
-    none-of : (eqb t 6 || (eqb t 8 || (eqb t 10 || (eqb t 12 || false)))) ≡ false → (t ≢ 6) × (t ≢ 8) × (t ≢ 10) × (t ≢ 12)
+    none-of : member t targets ≡ false → NoTarget t
     none-of e =
         let (p, e) = neither (eqb t 6) _ e in
         let (q, e) = neither (eqb t 8) _ e in
         let (r, e) = neither (eqb t 10) _ e in
-        (eqb-false t 6 p, eqb-false t 8 q, eqb-false t 10 r, eqb-false t 12 (neither (eqb t 12) false e .0))
+        let (s, e) = neither (eqb t 12) _ e in
+        let (u, e) = neither (eqb t 14) _ e in
+        let (v, e) = neither (eqb t 16) _ e in
+        (eqb-false t 6 p, eqb-false t 8 q, eqb-false t 10 r, eqb-false t 12 s, eqb-false t 14 u, eqb-false t 16 v, eqb-false t 18 (neither (eqb t 18) false e .0))
 
 pub test-matches : (plan : List ℤ) (rows cols lift target : ℕ) → Matches (testRules plan rows cols lift target) (PlanRow plan rows cols lift or TargetRow target)
 unfolding testRules
@@ -91,7 +100,7 @@ test-matches plan rows cols lift target =
     (one-rule Target (not (allowed target)) (TargetRow target) told row)
   where
     told : not (allowed target) ≡ true → TargetRow target 14 []
-    told e = let (p, q, r, s) = target-exactly target .0 e in row-14 p q r s
+    told e = let (p, q, r, s, u, v, w) = target-exactly target .0 e in row-14 p q r s u v w
 
     row : (n : ℕ) (l : List ℕ) → TargetRow target n l → Listed (refuse Target (not (allowed target)) ∷ []) n l
-    row n l (row-14 p q r t) = at-rule _ _ refl refl (target-exactly target .1 (p, q, r, t))
+    row n l (row-14 p q r s u v w) = at-rule _ _ refl refl (target-exactly target .1 (p, q, r, s, u, v, w))

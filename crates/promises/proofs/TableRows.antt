@@ -52,7 +52,7 @@ module _ (order numbers : ℕ) where
   supply-matches = record { listed = λ s i. inl (square-listed s i); applies = square-applies }
 
 -- an entry is found negative exactly where it is
-negative-exactly : (z : ℤ) → (negative z ≡ true) ↔ IsNegative z
+pub negative-exactly : (z : ℤ) → (negative z ≡ true) ↔ IsNegative z
 negative-exactly z = (is-negative z, found)
   where
     is-negative : (z : ℤ) → negative z ≡ true → IsNegative z

@@ -9,7 +9,7 @@ use lib.IntN.{ℤ}
 use lib.ListN.{length, getD, List·getD-eq-default}
 use Rattle.refusal.specs.Lowest.{lowest}
 use Rattle.graph.specs.Girth.{Passes}
-use Rattle.graph.specs.Stopping.{Least, girth-6, girth-8, girth-10, girth-12}
+use Rattle.graph.specs.Stopping.{Least, girth-6, girth-8, girth-10, girth-12, girth-14, girth-16, girth-18}
 use Rattle.graph.specs.Erasure.{erased, Codeword}
 use Rattle.graph.proofs.Decide.{by-bool, by-le}
 use Rattle.graph.proofs.Recovery.{few-recovered}
@@ -21,7 +21,7 @@ use Rattle.girth.proofs.Rules.{formed}
 use Rattle.syndrome.proofs.Rules.{word-accepted, even-exactly}
 use Rattle.peeling.specs.declared.Filling.the-variants.{Filled}
 use Rattle.peeling.proofs.Rules.{not-refused}
-use Rattle.promises.specs.Three.{Bound, at-6, at-8, at-10, at-12, Loses, Recovered, Promise-3, CodeFrames}
+use Rattle.promises.specs.Three.{Bound, at-6, at-8, at-10, at-12, at-14, at-16, at-18, Loses, Recovered, Promise-3, CodeFrames}
 use Rattle.promises.proofs.Two.{verdict}
 
 -- the bound is one less than the least stopping set
@@ -30,6 +30,9 @@ least at-6 = girth-6
 least at-8 = girth-8
 least at-10 = girth-10
 least at-12 = girth-12
+least at-14 = girth-14
+least at-16 = girth-16
+least at-18 = girth-18
 
 -- a codeword has the plan's length, and no byte of it is above 1, so none of a damaged one above 2
 module _ (plan : List ℤ) (rows cols lift : ℕ) (f : List ℕ) (code : Codeword (tanner plan rows cols lift) f) where

@@ -3,6 +3,7 @@ pub mod TurnedAway
 pub mod One
 pub mod Three
 pub mod Table
+pub mod Steiner
 pub mod Cases
 pub mod Texts
 pub mod Counts

@@ -30,12 +30,13 @@ use Rattle.table.specs.declared.Supplied.the-variants as supplied-answer
 use Rattle.table.specs.declared.Built.{Built}
 use Rattle.table.specs.declared.Built.the-variants as built-answer
 use Rattle.table.specs.Build.{lent, supplyRules, supplied, buildRules, builtPlan, built}
+use Rattle.steiner.specs.Build as steiner-build
 use Rattle.alist.specs.declared.Written.{Written}
 use Rattle.alist.specs.declared.Written.the-variants as written-answer
 use Rattle.alist.specs.declared.Comparison.{Comparison}
 use Rattle.alist.specs.declared.Comparison.the-variants as comparison-answer
 use Rattle.alist.specs.Calls.{alistText, writeRules, written, laid, compareRules, comparison}
-use Rattle.promises.specs.TurnedAway.{LiftRow, PlanRow, TargetRow, SquareRow, TableRow, MaskRow, PlaceRow, WordRow, RoomRow, ErasureRow, SolutionRow, TokenRow, _or_, LowestOf}
+use Rattle.promises.specs.TurnedAway.{LiftRow, PlanRow, TargetRow, SquareRow, TableRow, MaskRow, PlaceRow, WordRow, RoomRow, ErasureRow, SolutionRow, TokenRow, SteinerRow, _or_, LowestOf}
 
 -- the refusal in each kind of answer
 abbrev pub ofValidity : Validity → Option Refusal
@@ -105,6 +106,11 @@ pub record Promise-1 : Type 0 where
       let answer = ofBuilt (built refusal order (weight order mask)) in
       LowestOf (LiftRow lift or SquareRow order (length table) or TableRow order lift table or (MaskRow order lift mask or PlaceRow order mask (length plan))) answer
       × Unchanged answer plan (lent refusal (builtPlan order lift table mask) plan)
+  -- 3, 4, 6, 22, 23
+  pub steiner : (order lift : ℕ) (voltages plan : List ℤ)
+      → let refusal = lowest (steiner-build.buildRules order lift voltages (length plan)) in
+      let answer = ofBuilt (steiner-build.built refusal order) in
+      LowestOf (LiftRow lift or SteinerRow order lift voltages (length plan)) answer × Unchanged answer plan (lent refusal (steiner-build.steinerPlan order lift voltages) plan)
   -- 1 to 6, 17
   pub write : (plan : List ℤ) (rows cols lift : ℕ) (place : List ℕ)
       → let refusal = lowest (writeRules plan rows cols lift place) in

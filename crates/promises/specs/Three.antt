@@ -26,6 +26,9 @@ pub data Bound : ℕ → ℕ → Type 0 where
   at-8 : Bound 8 5
   at-10 : Bound 10 9
   at-12 : Bound 12 13
+  at-14 : Bound 14 21
+  at-16 : Bound 16 29
+  at-18 : Bound 18 45
 
 -- f′ is f with at most n of its bytes replaced by 2
 pub record Loses (f f′ : List ℕ) (n : ℕ) : Type 0 where

@@ -1,6 +1,6 @@
--- The rows of "Turned away" (document 01), by who can cause them: when each number applies, and with which values. Each row stands here
+-- The rows of "Turned away" (document 01), and of document 02's slips, by who can cause them: when each number applies, and with which values. Each row stands here
 -- once; the refusals of a call are its rows together (One.antt). Places count from 0.
-use Prim.Native.Nat.{ℕ, suc, _+_, _-_, _*_, _≤_, _<_, max}
+use Prim.Native.Nat.{ℕ, suc, _+_, _-_, _*_, _/_, _≤_, _<_, max}
 use mathlib.Core.Path.{_≡_}
 use mathlib.Core.Logic.{_↔_, _⊎_, _≢_}
 use mathlib.Core.List.{List, [], _∷_}
@@ -43,9 +43,9 @@ pub data PlanRow (plan : List ℤ) (rows cols lift : ℕ) : ℕ → List ℕ →
   row-5 : length plan ≢ rows * cols → PlanRow plan rows cols lift 5 []
   row-6 : (place : ℕ) → First (length plan) (λ p. BelowMinusOne (getD plan p (pos 0))) place → PlanRow plan rows cols lift 6 (place ∷ [])
 
--- 14: the target
+-- 14: the target (document 02, slip 6: to 18)
 pub data TargetRow (target : ℕ) : ℕ → List ℕ → Type 0 where
-  row-14 : target ≢ 6 → target ≢ 8 → target ≢ 10 → target ≢ 12 → TargetRow target 14 []
+  row-14 : target ≢ 6 → target ≢ 8 → target ≢ 10 → target ≢ 12 → target ≢ 14 → target ≢ 16 → target ≢ 18 → TargetRow target 14 []
 
 -- TABLE MAKER. 7 and 8: the order J, and how many numbers the table's list has
 pub data SquareRow (order numbers : ℕ) : ℕ → List ℕ → Type 0 where
@@ -140,6 +140,24 @@ DepartsAt form text G place = FirstWrong form text 0 (itemsOf form (linesIn form
 -- 21: the text departs from both forms, with the later of the two places
 pub data TokenRow (text : List ℕ) (G : Bipartite) : ℕ → List ℕ → Type 0 where
   row-21 : (p q : ℕ) → DepartsAt Padded text G p → DepartsAt Unpadded text G q → TokenRow text G 21 (max p q ∷ [])
+
+-- WHO ASKS FOR A STEINER TRIPLE PLAN (document 02, slip 6): the orders supplied; order v has v (v − 1) / 6 triples
+pub data IsOrder : ℕ → Type 0 where
+  seven : IsOrder 7
+  nine : IsOrder 9
+  thirteen : IsOrder 13
+  fifteen : IsOrder 15
+  nineteen : IsOrder 19
+
+abbrev pub triples : ℕ → ℕ
+triples order = order * (order - 1) / 6
+
+-- 4, of the order's triples; 6, of the first negative voltage; 22: the order; 23: how many voltages, and numbers in the plan's place
+pub data SteinerRow (order lift : ℕ) (voltages : List ℤ) (room : ℕ) : ℕ → List ℕ → Type 0 where
+  bits : IsOrder order → 65536 < triples order * lift → SteinerRow order lift voltages room 4 []
+  voltage : (place : ℕ) → First (length voltages) (λ p. IsNegative (getD voltages p (pos 0))) place → SteinerRow order lift voltages room 6 (place ∷ [])
+  row-22 : (IsOrder order → ⊥) → SteinerRow order lift voltages room 22 []
+  row-23 : IsOrder order → (length voltages ≢ 3 * triples order) ⊎ (room ≢ order * triples order) → SteinerRow order lift voltages room 23 []
 
 -- ROWS TOGETHER, and the lowest number that applies.
 infixl 1 _or_

@@ -19,6 +19,7 @@ ghost use Rattle.square.specs.Mask.{weight};
 ghost use Rattle.table.specs.declared.Built.{Built};
 ghost use Rattle.table.specs.declared.Supplied.{Supplied};
 ghost use Rattle.table.specs.Build.{lent, supplyRules, supplied, buildRules, builtPlan, built};
+ghost use Rattle.steiner.specs.Build as steiner;
 ghost use Rattle.alist.specs.declared.Written.{Written};
 ghost use Rattle.alist.specs.declared.Comparison.{Comparison};
 ghost use Rattle.alist.specs.Calls.{alistText, writeRules, written, laid, compareRules, comparison};
@@ -171,6 +172,28 @@ pub extern "C" fn qcldpc_build(
         return NO_ROOM;
     }
     let a = table::build(order as usize, lift as usize, table, mask, plan);
+    let r = reply::built(a);
+    reply::give(r, out)
+}
+
+// The plan of a Steiner triple system: out[0] rows and out[1] columns.
+#[no_mangle]
+pub extern "C" fn qcldpc_steiner(
+    order: u64,
+    lift: u64,
+    voltages: &[i16],
+    plan: &mut [i16],
+    out: &mut [u64],
+) -> u64
+    ensures answers { λ r. ⌜ Replies Built (λ a. a ≡ steiner.built (lowest (steiner.buildRules order lift (now (voltages .entry)) (length (now (plan .entry))))) order)
+        (gives builtReply) (now (out .entry)) r (now (out .exit)) ⌝ }
+    ensures leaves { λ _. ⌜ Leaves (now (out .entry)) (lent (lowest (steiner.buildRules order lift (now (voltages .entry)) (length (now (plan .entry)))))
+        (steiner.steinerPlan order lift (now (voltages .entry))) (now (plan .entry))) (now (plan .entry)) (now (plan .exit)) ⌝ }
+{
+    if out.len() < PLACES {
+        return NO_ROOM;
+    }
+    let a = steiner::build(order as usize, lift as usize, voltages, plan);
     let r = reply::built(a);
     reply::give(r, out)
 }

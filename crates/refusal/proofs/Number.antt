@@ -4,7 +4,7 @@ use mathlib.Core.Path.{_≡_, refl}
 use mathlib.Core.List.{List, [], _∷_, map}
 use native.Mathlib.Omega.{arith}
 use Rattle.refusal.specs.declared.Refusal.{Refusal}
-use Rattle.refusal.specs.declared.Refusal.the-variants.{Rows, Cols, Lift, Bits, PlanLength, Entry, Order, TableLength, NegativeEntry, Unsound, MaskByte, MaskWeight, TableBits, Target, PlanPlace, WordLength, TextPlace, Byte, Erasure, NoSolution, Token}
+use Rattle.refusal.specs.declared.Refusal.the-variants.{Rows, Cols, Lift, Bits, PlanLength, Entry, Order, TableLength, NegativeEntry, Unsound, MaskByte, MaskWeight, TableBits, Target, PlanPlace, WordLength, TextPlace, Byte, Erasure, NoSolution, Token, SteinerOrder, SteinerLength}
 use Rattle.refusal.specs.Number.{number}
 
 -- the cases in order, whatever the values are
@@ -31,13 +31,15 @@ cases v =
     ∷ Erasure v
     ∷ NoSolution
     ∷ Token v
+    ∷ SteinerOrder
+    ∷ SteinerLength
     ∷ []
 
-pub numbered : (v : ℕ) → map number (cases v) ≡ 1 ∷ 2 ∷ 3 ∷ 4 ∷ 5 ∷ 6 ∷ 7 ∷ 8 ∷ 9 ∷ 10 ∷ 11 ∷ 12 ∷ 13 ∷ 14 ∷ 15 ∷ 16 ∷ 17 ∷ 18 ∷ 19 ∷ 20 ∷ 21 ∷ []
+pub numbered : (v : ℕ) → map number (cases v) ≡ 1 ∷ 2 ∷ 3 ∷ 4 ∷ 5 ∷ 6 ∷ 7 ∷ 8 ∷ 9 ∷ 10 ∷ 11 ∷ 12 ∷ 13 ∷ 14 ∷ 15 ∷ 16 ∷ 17 ∷ 18 ∷ 19 ∷ 20 ∷ 21 ∷ 22 ∷ 23 ∷ []
 numbered v = refl
 
--- so every number is one of 1 to 21
-pub number-range : (r : Refusal) → (1 ≤ number r) × (number r ≤ 21)
+-- so every number is one of 1 to 23
+pub number-range : (r : Refusal) → (1 ≤ number r) × (number r ≤ 23)
 number-range Rows = omega arith
 number-range Cols = omega arith
 number-range Lift = omega arith
@@ -59,3 +61,5 @@ number-range (Byte p) = omega arith
 number-range (Erasure p) = omega arith
 number-range NoSolution = omega arith
 number-range (Token p) = omega arith
+number-range SteinerOrder = omega arith
+number-range SteinerLength = omega arith

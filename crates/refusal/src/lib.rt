@@ -1,6 +1,6 @@
 pub mod numbers; // numbers.rt: the number and the values of a refusal, as numbers
 
-// Why a call turns its caller away: one case for each number of document 01, "Turned away", with the values it carries.
+// Why a call turns its caller away: one case for each number of documents 01 and 02, "Turned away", with the values it carries.
 // Places count from 0. `number` and `values` of specs/Number.antt give the document's number and values.
 pub enum Refusal {
     // 1 to 6: the plan designer.
@@ -36,4 +36,7 @@ pub enum Refusal {
     NoSolution,
     // 21: the sender of a text.
     Token(usize),
+    // 22 and 23: who asks for a Steiner triple plan.
+    SteinerOrder,
+    SteinerLength,
 }

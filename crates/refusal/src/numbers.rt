@@ -36,6 +36,8 @@ pub fn number_of(r: Refusal) -> u64
         Refusal::Erasure(_) => 19,
         Refusal::NoSolution => 20,
         Refusal::Token(_) => 21,
+        Refusal::SteinerOrder => 22,
+        Refusal::SteinerLength => 23,
     }
 }
 

@@ -1,6 +1,7 @@
 -- Laws of `each`: nested counting is counting by digits, which is how the code goes through it. Assumes nothing.
 use Prim.Native.Nat.{ℕ, zero, suc, _+_, _*_, _/_, _%_, _<_, _≤_}
-use mathlib.Core.Path.{_≡_, refl, sym, ap, ap₂, _∙_}
+use mathlib.Core.Path.{_≡_, refl, sym, ap, ap₂, subst, _∙_}
+use mathlib.Core.Logic.{_⊎_, inl, inr}
 use mathlib.Core.Bool.{Bool, true, false}
 use mathlib.Core.List.{List, [], _∷_, _++_, map, append-nil, append-assoc, map-append}
 use native.Mathlib.Nat.{add-zero, suc-mul, zero-mul}
@@ -9,6 +10,9 @@ use native.Mathlib.Omega.{arith}
 use lib.IntN.{pos}
 use lib.ListN.{length, getD, length-append, List·getD-append}
 use lib.Seq.{getD-append-add}
+use Rattle.graph.specs.Count.{Mem}
+use Rattle.graph.proofs.Decide.{by-eq}
+use Rattle.graph.proofs.Lists.{mem-left, mem-right, mem-append}
 use Rattle.exponent.proofs.Numbers.{block-of, place-of}
 use Rattle.square.specs.declared.supply.Family.{Family}
 use Rattle.square.specs.Each.{each, upon, grid}
@@ -56,6 +60,30 @@ module _ {A : Type 0} where
           ap (λ (x : ℕ). getD (each n (λ i. f i ∷ []) ++ f n ∷ []) x d) k ∙ getD-append-add (each n (λ i. f i ∷ [])) (f n ∷ []) 0 d ∙ ap f (sym e)
       go (no e) rest =
           List·getD-append (each n (λ i. f i ∷ [])) (f n ∷ []) d i (omega (arith, length-ones n f)) ∙ rest (omega arith)
+
+  -- MEMBERS of a counted list
+  pub mem-each : (x : A) (n : ℕ) (f : ℕ → List A) → Mem x (each n f) → (i : ℕ) × (i < n) × Mem x (f i)
+  mem-each x zero f m = absurd m
+  mem-each x (suc n) f m = go (mem-append x (each n f) (f n) m) (mem-each x n f)
+    where
+      go : Mem x (each n f) ⊎ Mem x (f n) → (Mem x (each n f) → (i : ℕ) × (i < n) × Mem x (f i)) → (i : ℕ) × (i < suc n) × Mem x (f i)
+      go (inl k) more = let r : (i : ℕ) × (i < n) × Mem x (f i) = more k in (r .0, omega arith, r .2)
+      go (inr k) more = (n, omega arith, k)
+
+  pub each-mem : (x : A) (n : ℕ) (f : ℕ → List A) (i : ℕ) → i < n → Mem x (f i) → Mem x (each n f)
+  each-mem x zero f i h m = absurd (let z : ⊥ = omega arith in z)
+  each-mem x (suc n) f i h m =
+      by-eq i n
+      (λ e. mem-right x (each n f) (f n) (subst (λ (k : ℕ). Mem x (f k)) e m))
+      (λ d. mem-left x (each n f) (f n) (each-mem x n f i (omega arith) m))
+
+  pub mem-upon : (x y : A) (b : Bool) → Mem x (upon b (y ∷ [])) → (b ≡ true) × (x ≡ y)
+  mem-upon x y true (inl e) = (refl, e)
+  mem-upon x y true (inr m) = absurd m
+  mem-upon x y false m = absurd m
+
+  pub upon-mem : (x : A) (b : Bool) → b ≡ true → Mem x (upon b (x ∷ []))
+  upon-mem x b e = rw e (inl refl)
 
   -- one part fits into the whole
   pub each-mono : (n i : ℕ) (f : ℕ → List A) → i < n → length (each i f) + length (f i) ≤ length (each n f)

@@ -119,11 +119,14 @@ back-end (suc k) z w on h = absurd (omega arith)
 pop-lay : (b : ℕ) (j : Joint) (l : List Joint) → length l < places → pop (lay b (j ∷ l)) ≡ lay b l
 unfolding lay
 pop-lay b j [] h = refl
-pop-lay b j (x ∷ []) h = refl
-pop-lay b j (x ∷ y ∷ []) h = refl
-pop-lay b j (x ∷ y ∷ z ∷ []) h = refl
-pop-lay b j (x ∷ y ∷ z ∷ u ∷ []) h = refl
-pop-lay b j (x ∷ y ∷ z ∷ u ∷ v ∷ l) h = absurd (let q : ⊥ = omega arith in q)
+pop-lay b j (x0 ∷ []) h = refl
+pop-lay b j (x0 ∷ x1 ∷ []) h = refl
+pop-lay b j (x0 ∷ x1 ∷ x2 ∷ []) h = refl
+pop-lay b j (x0 ∷ x1 ∷ x2 ∷ x3 ∷ []) h = refl
+pop-lay b j (x0 ∷ x1 ∷ x2 ∷ x3 ∷ x4 ∷ []) h = refl
+pop-lay b j (x0 ∷ x1 ∷ x2 ∷ x3 ∷ x4 ∷ x5 ∷ []) h = refl
+pop-lay b j (x0 ∷ x1 ∷ x2 ∷ x3 ∷ x4 ∷ x5 ∷ x6 ∷ []) h = refl
+pop-lay b j (x0 ∷ x1 ∷ x2 ∷ x3 ∷ x4 ∷ x5 ∷ x6 ∷ x7 ∷ l) h = absurd (let q : ⊥ = omega arith in q)
 
 back-lay : (z b e : ℕ) (l on : List Joint) → length l ≤ places → backTrail (length l) z (lay b l) (lay e on) ≡ lay e (backAlong z l on)
 unfolding backTrail backAlong lay

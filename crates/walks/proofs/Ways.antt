@@ -2,7 +2,7 @@
 use Prim.Native.Nat.{ℕ, zero, suc, _+_, _-_, _*_, _/_, _≤_, _<_}
 use mathlib.Core.Path.{_≡_, refl, sym, ap, ap₂, subst, _∙_}
 use mathlib.Core.Logic.{_≢_, inl, inr}
-use mathlib.Core.List.{List, [], _∷_, _++_, map}
+use mathlib.Core.List.{List, [], _∷_, map}
 use native.Mathlib.Omega.{arith}
 use native.Mathlib.Nat.{div-add-mod'}
 use lib.IntN.{ℤ}
@@ -10,7 +10,7 @@ use lib.ListN.{length}
 use Rattle.graph.specs.Count.{Mem}
 use Rattle.graph.specs.Graph.{Bipartite, Joined}
 use Rattle.graph.proofs.Decide.{by-eq}
-use Rattle.graph.proofs.Lists.{last, mem-left, mem-append, mem-image, each-image}
+use Rattle.graph.proofs.Lists.{last, mem-left, mem-right, mem-append, mem-image, each-image}
 use Rattle.graph.proofs.Walks.{Node, check, bit, check-inj, bit-inj, Adj, Apart, Walk}
 use Rattle.exponent.specs.declared.position.Position.{Position}
 use Rattle.exponent.specs.declared.Shape.{Shape}
@@ -24,10 +24,6 @@ use Rattle.walks.proofs.Nodes.{nodes}
 use Rattle.walks.proofs.Link.{checkFrom, bitFrom, edge-over, same-bit, same-check, step-bit, step-check, bit-step, check-step}
 
 -- LISTS OF WAYS: what is in them
-
-mem-right : {A : Type 0} (x : A) (p q : List A) → Mem x q → Mem x (p ++ q)
-mem-right x [] q m = m
-mem-right x (y ∷ p) q m = inr (mem-right x p q m)
 
 pub mem-each : {A : Type 0} (f : ℕ → List A) (k i : ℕ) (w : A) → Mem w (each f k i) → (j : ℕ) × (i ≤ j) × (j < i + k) × Mem w (f j)
 unfolding each

@@ -11,7 +11,7 @@ use Rattle.walks.specs.Meeting.{Result}
 
 -- the places for checks, and for bits
 abbrev pub places : ℕ
-places = 5
+places = 8
 
 -- one check and the bit after it, in front; and left out again
 abbrev pub push : ℕ → ℕ → Trail → Trail
@@ -23,11 +23,17 @@ push c b t =
       c2 = t .c1;
       c3 = t .c2;
       c4 = t .c3;
+      c5 = t .c4;
+      c6 = t .c5;
+      c7 = t .c6;
       b0 = b;
       b1 = t .b0;
       b2 = t .b1;
       b3 = t .b2;
       b4 = t .b3;
+      b5 = t .b4;
+      b6 = t .b5;
+      b7 = t .b6;
     }
 
 abbrev pub pop : Trail → Trail
@@ -38,16 +44,22 @@ pop t =
       c1 = t .c2;
       c2 = t .c3;
       c3 = t .c4;
-      c4 = 0;
+      c4 = t .c5;
+      c5 = t .c6;
+      c6 = t .c7;
+      c7 = 0;
       b0 = t .b1;
       b1 = t .b2;
       b2 = t .b3;
       b3 = t .b4;
-      b4 = 0;
+      b4 = t .b5;
+      b5 = t .b6;
+      b6 = t .b7;
+      b7 = 0;
     }
 
 abbrev pub noTrail : ℕ → Trail
-noTrail b = record { end = b; c0 = 0; c1 = 0; c2 = 0; c3 = 0; c4 = 0; b0 = 0; b1 = 0; b2 = 0; b3 = 0; b4 = 0 }
+noTrail b = record { end = b; c0 = 0; c1 = 0; c2 = 0; c3 = 0; c4 = 0; c5 = 0; c6 = 0; c7 = 0; b0 = 0; b1 = 0; b2 = 0; b3 = 0; b4 = 0; b5 = 0; b6 = 0; b7 = 0 }
 
 unfoldable pub lay : ℕ → List Joint → Trail
 lay b [] = noTrail b

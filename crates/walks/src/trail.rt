@@ -4,7 +4,7 @@ ghost use Rattle.walks.specs.Ways.{odd};
 ghost use Rattle.walks.specs.Trail.{push, pop, noTrail, backTrail, joinTrail};
 
 // The places for checks, and for bits.
-pub const PLACES: usize = 5;
+pub const PLACES: usize = 8;
 
 // A way: the bit at its end, its checks, and the bit after each; 0 in the places not used.
 pub struct Trail {
@@ -14,11 +14,17 @@ pub struct Trail {
     pub c2: usize,
     pub c3: usize,
     pub c4: usize,
+    pub c5: usize,
+    pub c6: usize,
+    pub c7: usize,
     pub b0: usize,
     pub b1: usize,
     pub b2: usize,
     pub b3: usize,
     pub b4: usize,
+    pub b5: usize,
+    pub b6: usize,
+    pub b7: usize,
 }
 
 // What a search finds.
@@ -39,11 +45,17 @@ impl Trail {
             c2: 0,
             c3: 0,
             c4: 0,
+            c5: 0,
+            c6: 0,
+            c7: 0,
             b0: 0,
             b1: 0,
             b2: 0,
             b3: 0,
             b4: 0,
+            b5: 0,
+            b6: 0,
+            b7: 0,
         }
     }
 
@@ -58,11 +70,17 @@ impl Trail {
             c2: self.c1,
             c3: self.c2,
             c4: self.c3,
+            c5: self.c4,
+            c6: self.c5,
+            c7: self.c6,
             b0: bit,
             b1: self.b0,
             b2: self.b1,
             b3: self.b2,
             b4: self.b3,
+            b5: self.b4,
+            b6: self.b5,
+            b7: self.b6,
         }
     }
 
@@ -76,12 +94,18 @@ impl Trail {
             c1: self.c2,
             c2: self.c3,
             c3: self.c4,
-            c4: 0,
+            c4: self.c5,
+            c5: self.c6,
+            c6: self.c7,
+            c7: 0,
             b0: self.b1,
             b1: self.b2,
             b2: self.b3,
             b3: self.b4,
-            b4: 0,
+            b4: self.b5,
+            b5: self.b6,
+            b6: self.b7,
+            b7: 0,
         }
     }
 }

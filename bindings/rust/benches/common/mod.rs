@@ -1,4 +1,4 @@
-//! What the benchmarks share: table plans, what the references do with a plan, and the clock.
+//! What the benchmarks share: table plans, what the references do with a plan, numbers, and the clock.
 #![allow(dead_code)] // each benchmark uses a part
 pub use qcldpc::OwnedPlan;
 use std::hint::black_box;
@@ -40,6 +40,16 @@ pub fn shift(e: i16, lift: usize) -> usize {
         e
     } else {
         e % lift
+    }
+}
+
+/// A fixed sequence of numbers.
+pub struct Sequence(pub u64);
+
+impl Sequence {
+    pub fn next(&mut self) -> u64 {
+        self.0 = self.0.wrapping_mul(6364136223846793005).wrapping_add(1442695040888963407);
+        self.0 >> 33
     }
 }
 

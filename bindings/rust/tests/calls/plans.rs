@@ -79,20 +79,21 @@ fn shown(plan: &OwnedPlan, target: usize) -> Result<usize, Refusal> {
 pub fn girth() -> Vec<Call> {
     let mut calls = vec![];
     let mut add = |plan: OwnedPlan, target, n| calls.push(expect(move || shown(&plan, target), Ok(n)));
-    for n in 2..6 {
+    for n in 2..9 {
         let target = 2 * n + 2;
         add(ring(n), target, n);
         add(full(128), target, 2);
         add(chain(192, 512, 128), target, 0);
         add(chain(192, 16, 4096), target, 0);
-        add(tables::largest_plan(), target, 0);
+        // Its girth is 12.
+        add(tables::largest_plan(), target, if target > 12 { 6 } else { 0 });
     }
     calls
 }
 
 pub fn girth_refused() -> Vec<Call> {
-    let mut calls = turned_away(|plan| qcldpc::girth(&plan.lent(), 12));
+    let mut calls = turned_away(|plan| qcldpc::girth(&plan.lent(), 18));
     let plan = tables::largest_plan();
-    calls.push(expect(move || qcldpc::girth(&plan.lent(), 14), Err(refusal(14, &[]))));
+    calls.push(expect(move || qcldpc::girth(&plan.lent(), 20), Err(refusal(14, &[]))));
     calls
 }

@@ -1,4 +1,5 @@
 //! The largest tables and table plans.
+use super::builders::{builds, refuses, Builder, Wrong, BEFORE};
 use super::{expect, refusal, Call};
 use qcldpc::{Built, OwnedPlan, Refusal};
 
@@ -48,13 +49,17 @@ struct Parts {
 
 // The cyclic table of an order with the full mask.
 fn parts(order: usize, lift: usize) -> Parts {
-    let plan = vec![7; 3 * order.pow(5)];
+    let plan = vec![BEFORE; 3 * order.pow(5)];
     Parts { order, lift, table: supplied(qcldpc::cyclic_table, order), mask: vec![1; order * order], plan }
 }
 
-impl Parts {
+impl Builder for Parts {
     fn build(&mut self) -> Result<Built, Refusal> {
         qcldpc::build(self.order, self.lift, &self.table, &self.mask, &mut self.plan)
+    }
+
+    fn plan(&self) -> &[i16] {
+        &self.plan
     }
 }
 
@@ -65,20 +70,12 @@ pub fn largest_plan() -> OwnedPlan {
     OwnedPlan { entries: parts.plan, rows, cols, lift: 191 }
 }
 
-// The answer of the builder, and how many blocks it filled.
-fn builds(order: usize, lift: usize) -> Call {
-    let (rows, cols) = (3 * order * order, order * order * order);
-    let mut parts = parts(order, lift);
-    let run = move || (parts.build(), parts.plan.iter().filter(|&&e| e >= 0).count());
-    expect(run, (Ok(Built { rows, cols }), 3 * cols))
-}
-
 pub fn build() -> Vec<Call> {
-    vec![builds(7, 191), builds(4, 1024)]
+    vec![builds(parts(7, 191), 147, 343), builds(parts(4, 1024), 48, 64)]
 }
 
 pub fn build_refused() -> Vec<Call> {
-    let wrong: [(fn(&mut Parts), Refusal); 9] = [
+    let wrong: [Wrong<Parts>; 9] = [
         (|parts| parts.lift = 4097, refusal(3, &[])),
         (|parts| parts.order = 8, refusal(7, &[])),
         (|parts| parts.table.push(0), refusal(8, &[])),
@@ -87,13 +84,7 @@ pub fn build_refused() -> Vec<Call> {
         (|parts| parts.mask[48] = 2, refusal(11, &[])),
         (|parts| parts.mask[48] = 0, refusal(12, &[])),
         (|parts| parts.lift = 192, refusal(13, &[])),
-        (|parts| parts.plan.push(7), refusal(15, &[])),
+        (|parts| parts.plan.push(BEFORE), refusal(15, &[])),
     ];
-    let refuse = |(damage, wanted): (fn(&mut Parts), Refusal)| {
-        let mut parts = parts(7, 191);
-        damage(&mut parts);
-        let run = move || (parts.build(), parts.plan.iter().all(|&e| e == 7));
-        expect(run, (Err(wanted), true))
-    };
-    wrong.map(refuse).into()
+    refuses(|| parts(7, 191), wrong)
 }

@@ -58,6 +58,22 @@ pub fn left<T: Copy + PartialEq + Debug>(input: &dyn Debug, memory: &Lent<T>, wa
     assert!(memory.holds(wanted), "left {:?}, wanted {wanted:?}, for {input:?}", memory.content());
 }
 
+/// A raw function that writes numbers into a lent place: what it returns, `out`, and what stands in the place then.
+pub fn writes(
+    input: &dyn Debug,
+    lent: &[i16],
+    answer: &Result<Vec<usize>, Refusal>,
+    after: &[i16],
+    function: impl Fn(*mut i16, usize, *mut u64, usize) -> u64,
+) {
+    let mut place = lend_numbers(lent);
+    no_room(|out, places| function(place.pointer(), place.len(), out, places));
+    left(input, &place, lent);
+    let got = with_room(|out, places| function(place.pointer(), place.len(), out, places));
+    agree(input, got, reply(answer));
+    left(input, &place, after);
+}
+
 /// A plan in a message: its shape, and its entries where they are few.
 pub struct Short<'a>(pub &'a Plan<'a>);
 

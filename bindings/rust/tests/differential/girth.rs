@@ -1,15 +1,16 @@
 //! The girth test.
-use crate::door::{agree, left, lend_numbers, no_room, reply, with_room, Short, BEFORE};
-use crate::inputs::{any_plan, column_plan, every_entry, limit_plans, OwnedPlan};
+use crate::door::{agree, left, lend_numbers, no_room, reply, with_room, Short};
+use crate::inputs::{any_plan, column_plan, every_entry, limit_plans, small_plan, OwnedPlan};
 use crate::random::Random;
 use crate::reference;
 use crate::reference::graph::{graph, Graph};
 use crate::seen::Seen;
 use crate::tables::{built_plans, cyclic_plan};
+use crate::{steiner, table_vi};
 use qcldpc::raw::qcldpc_girth;
 use qcldpc::{Girth, Plan};
 
-const TARGETS: [usize; 4] = [6, 8, 10, 12];
+const TARGETS: [usize; 7] = [6, 8, 10, 12, 14, 16, 18];
 
 // A plan and a target that are refused.
 fn compare_refused(plan: &Plan, target: usize, seen: &mut Seen) {
@@ -32,15 +33,13 @@ fn raw_reply(plan: &Plan, target: usize) -> (u64, Vec<u64>) {
     got
 }
 
-// The shown cycle in `out`: n, then five places of checks and from place 9 five of bits; the other places keep what they held.
-fn out_of(checks: &[usize], bits: &[usize]) -> Vec<u64> {
-    let mut out = reply(&Ok(vec![checks.len()])).1;
-    for k in 0..5 {
-        out[1 + k] = checks.get(k).map_or(0, |&c| c as u64);
-        out[9 + k] = bits.get(k).map_or(0, |&b| b as u64);
+// The shown cycle in `out`: n, then eight places of checks and eight of bits; the other places keep what they held.
+fn out_of(checks: &[usize], bits: &[usize]) -> (u64, Vec<u64>) {
+    let mut values = vec![checks.len()];
+    for nodes in [checks, bits] {
+        values.extend((0..8).map(|k| nodes.get(k).copied().unwrap_or(0)));
     }
-    assert_eq!(out[6..9], [BEFORE; 3]);
-    out
+    reply(&Ok(values))
 }
 
 // A good plan at a target, with its graph and girth.
@@ -57,27 +56,40 @@ fn compare_good(plan: &Plan, graph: &Graph, girth: usize, target: usize, seen: &
     if girth < target {
         agree(input, reference::girth::fault(graph, girth, &checks, &bits), None);
     }
-    agree(input, raw_reply(plan, target), (0, out_of(&checks, &bits)));
+    agree(input, raw_reply(plan, target), out_of(&checks, &bits));
 }
 
-/// A plan at every target, allowed or not. Gives its girth, up to 12, where it is not refused.
+/// A plan at every target, allowed or not. Gives its girth, up to 18, where it is not refused.
 pub fn compare(plan: &Plan, seen: &mut Seen) -> Option<usize> {
     if reference::plan::check(plan).is_err() {
         TARGETS.iter().for_each(|&target| compare_refused(plan, target, seen));
         compare_refused(plan, 7, seen);
         return None;
     }
-    for target in [0, 2, 4, 5, 7, 11, 13, 14, 6 + (1 << 32), usize::MAX] {
+    for target in [0, 2, 4, 5, 7, 11, 13, 15, 17, 19, 20, 6 + (1 << 32), usize::MAX] {
         compare_refused(plan, target, seen);
     }
     let graph = graph(plan);
-    let girth = reference::girth::girth(&graph);
+    let girth = reference::girth::girth(&graph, plan.lift);
     TARGETS.iter().for_each(|&target| compare_good(plan, &graph, girth, target, seen));
     Some(girth)
 }
 
-// Plans of which each girth from 4 to 12 and more is likely.
+// The search from the bits with z = 0 finds what the search from every bit finds.
+fn compare_starts(random: &Random) {
+    for k in 0..2000 {
+        let plan = if k % 2 == 0 { small_plan(random) } else { likely_plan(random) };
+        let graph = graph(&plan.lent());
+        let every = reference::girth::girth_from_every_bit(&graph);
+        agree(&Short(&plan.lent()), reference::girth::girth(&graph, plan.lift), every);
+    }
+}
+
+// Plans of which each girth from 4 to 18 and more is likely; 14 is so of Steiner plans.
 fn likely_plan(random: &Random) -> OwnedPlan {
+    if random.once_in(8) {
+        return steiner::random_plan(random, 7, random.between(20, 1000));
+    }
     let lift = random.between(2, 60);
     let (rows, cols) = random.choice(&[(2, 2), (2, 3), (2, 5), (3, 3), (3, 4), (4, 6), (8, 8), (12, 20)]);
     let weight = random.choice(&[2, 2, 3]).min(rows);
@@ -113,8 +125,8 @@ fn rings(halves: &[usize], lift: usize) -> OwnedPlan {
 
 // Where cycles of several lengths are below the target, a shortest is shown, wherever it stands.
 fn compare_rings(seen: &mut Seen) {
-    for choice in 1..16 {
-        let rising: Vec<usize> = (2..6).filter(|n| choice >> (n - 2) & 1 == 1).collect();
+    for choice in 1..128 {
+        let rising: Vec<usize> = (2..9).filter(|n| choice >> (n - 2) & 1 == 1).collect();
         let falling: Vec<usize> = rising.iter().rev().copied().collect();
         for lift in [1, 2, 7] {
             for halves in [&rising, &falling] {
@@ -126,8 +138,8 @@ fn compare_rings(seen: &mut Seen) {
 
 // One cycle in the last rows and columns of the largest plans, where the search begins last.
 fn compare_last_rings(seen: &mut Seen) {
-    for (rows, cols, lift) in [(192, 512, 128), (192, 16, 4096), (5, 512, 1), (192, 5, 4096)] {
-        for n in 2..6 {
+    for (rows, cols, lift) in [(192, 512, 128), (192, 16, 4096), (8, 512, 1), (192, 8, 4096)] {
+        for n in 2..9 {
             let mut plan = empty_plan(rows, cols, lift);
             put_ring(&mut plan, rows - n, cols - n, n);
             assert_eq!(compare(&plan.lent(), seen), Some(2 * n), "the girth of {n} rows of {rows}");
@@ -135,26 +147,38 @@ fn compare_last_rings(seen: &mut Seen) {
     }
 }
 
+// Table plans, Steiner plans, and those of a source with the girth that it prints.
+fn compare_built(random: &Random, seen: &mut Seen) {
+    for plan in built_plans(random) {
+        assert!(compare(&plan.lent(), seen) >= Some(12), "every table plan passes at 12");
+    }
+    compare(&cyclic_plan(4, 1024).lent(), seen);
+    for plan in steiner::built_plans(random) {
+        assert!(compare(&plan.lent(), seen) >= Some(6), "every Steiner plan passes at 6");
+    }
+    for (plan, girth) in table_vi::plans() {
+        assert_eq!(compare(&plan.lent(), seen), Some(girth), "the girth that is printed");
+    }
+}
+
 pub fn compare_all() -> Seen {
     let (random, mut seen) = (Random::new(2), Seen::default());
+    compare_starts(&random);
     for plan in limit_plans(&random) {
         compare(&plan.lent(), &mut seen);
     }
-    for plan in built_plans(&random) {
-        assert_eq!(compare(&plan.lent(), &mut seen), Some(12), "every table plan passes at 12");
-    }
-    compare(&cyclic_plan(4, 1024).lent(), &mut seen);
+    compare_built(&random, &mut seen);
     compare_rings(&mut seen);
     compare_last_rings(&mut seen);
     // By the remainders 0 to 3 of e: girth 4, 16, 8, 16.
     every_entry(4).for_each(|plan| _ = compare(&plan.lent(), &mut seen));
-    let mut met = [0; 13];
+    let mut met = [0; 19];
     for k in 0..6000 {
         let plan = if k < 3000 { any_plan(&random, 8) } else { likely_plan(&random) };
         if let Some(girth) = compare(&plan.lent(), &mut seen) {
             met[girth] += 1;
         }
     }
-    assert!([4, 6, 8, 10, 12].iter().all(|&g| met[g] > 50), "each girth is met: {met:?}");
+    assert!((4..=18).step_by(2).all(|g| met[g] > 80), "each girth is met: {met:?}");
     seen
 }

@@ -3,12 +3,15 @@ use crate::reference::alist::Departures;
 use qcldpc::Plan;
 use std::fmt;
 
+/// The highest number of a refusal.
+pub const LAST: usize = 23;
+
 #[derive(Clone, Default)]
 pub struct Seen {
     pub results: usize,
-    /// Those of them whose plan has a voltage at or above its lift.
+    /// Those of them with a voltage at or above the lift.
     pub printed: usize,
-    refusals: [usize; 22],
+    refusals: [usize; LAST + 1],
 }
 
 impl Seen {
@@ -21,13 +24,23 @@ impl Seen {
 
     /// The answer of a call that was given a plan.
     pub fn note_on<T>(&mut self, plan: &Plan, answer: &Result<T, qcldpc::Refusal>) {
+        self.note_voltages(plan.entries, plan.lift, answer);
+    }
+
+    /// The answer of a call that was given voltages and a lift.
+    pub fn note_voltages<T>(&mut self, voltages: &[i16], lift: usize, answer: &Result<T, qcldpc::Refusal>) {
         self.note(answer);
-        let printed = plan.entries.iter().any(|&entry| entry >= 0 && entry as usize >= plan.lift);
+        let printed = voltages.iter().any(|&voltage| voltage >= 0 && voltage as usize >= lift);
         self.printed += (answer.is_ok() && printed) as usize;
     }
 
     pub fn refusals(&self, number: usize) -> usize {
         self.refusals[number]
+    }
+
+    /// The refusals that were met.
+    pub fn met(&self) -> Vec<usize> {
+        (1..=LAST).filter(|&number| self.refusals[number] > 0).collect()
     }
 }
 
@@ -37,8 +50,7 @@ impl fmt::Display for Seen {
         if self.printed > 0 {
             write!(f, " ({} with a voltage at or above the lift)", self.printed)?;
         }
-        let met = (1..22).filter(|&n| self.refusals[n] > 0);
-        met.into_iter().try_for_each(|n| write!(f, ", {} of refusal {n}", self.refusals[n]))
+        self.met().into_iter().try_for_each(|n| write!(f, ", {} of refusal {n}", self.refusals[n]))
     }
 }
 

@@ -1,5 +1,5 @@
 //! The supplied tables and the plans built from tables and masks.
-use crate::door::{agree, left, lend_bytes, lend_numbers, no_room, reply, with_room};
+use crate::door::{agree, left, lend_bytes, lend_numbers, writes};
 use crate::inputs::OwnedPlan;
 use crate::random::Random;
 use crate::reference;
@@ -11,13 +11,8 @@ type Supply = unsafe extern "C" fn(u64, *mut i16, usize, *mut u64, usize) -> u64
 
 fn compare_supply(function: Supply, order: usize, lent: &[i16], wanted: (Result<(), Refusal>, Vec<i16>), seen: &mut Seen) {
     let (answer, after) = wanted;
-    let input = &(order, lent.len());
-    let mut table = lend_numbers(lent);
-    no_room(|out, places| unsafe { function(order as u64, table.pointer(), table.len(), out, places) });
-    left(input, &table, lent);
-    let got = with_room(|out, places| unsafe { function(order as u64, table.pointer(), table.len(), out, places) });
-    agree(input, got, reply(&answer.clone().map(|_| vec![])));
-    left(input, &table, &after);
+    let call = |to, len, out, places| unsafe { function(order as u64, to, len, out, places) };
+    writes(&(order, lent.len()), lent, &answer.clone().map(|_| vec![]), &after, call);
     seen.note(&answer);
 }
 
@@ -46,15 +41,10 @@ fn compare_build(parts: &Parts, seen: &mut Seen) -> Option<OwnedPlan> {
     let lent = vec![7; parts.places];
     let (answer, after) = reference::table::build(order, lift, &parts.table, &parts.mask, &lent);
     let (mut table, mut mask) = (lend_numbers(&parts.table), lend_bytes(&parts.mask));
-    let mut plan = lend_numbers(&lent);
-    let (n, m, p) = (table.len(), mask.len(), plan.len());
+    let (n, m) = (table.len(), mask.len());
     let (t, k) = (table.pointer(), mask.pointer());
-    let call = |to, out, places| unsafe { qcldpc_build(order as u64, lift as u64, t, n, k, m, to, p, out, places) };
-    no_room(|out, places| call(plan.pointer(), out, places));
-    left(parts, &plan, &lent);
-    let got = with_room(|out, places| call(plan.pointer(), out, places));
-    agree(parts, got, reply(&answer.clone().map(|built| vec![built.rows, built.cols])));
-    left(parts, &plan, &after);
+    let call = |to, len, out, places| unsafe { qcldpc_build(order as u64, lift as u64, t, n, k, m, to, len, out, places) };
+    writes(parts, &lent, &answer.clone().map(|built| vec![built.rows, built.cols]), &after, call);
     left(parts, &table, &parts.table);
     left(parts, &mask, &parts.mask);
     let mut copy = lent;

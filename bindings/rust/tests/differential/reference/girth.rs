@@ -1,4 +1,4 @@
-//! The girth by breadth-first search from every bit of the expanded graph, and what a shown cycle has to be.
+//! The girth by breadth-first search in the expanded graph, and what a shown cycle has to be.
 use super::graph::Graph;
 use super::{plan, refused};
 use qcldpc::{Plan, Refusal};
@@ -8,15 +8,25 @@ use std::collections::HashSet;
 pub fn refusal(plan: &Plan, target: usize) -> Result<(), Refusal> {
     plan::check(plan)?;
     match target {
-        6 | 8 | 10 | 12 => Ok(()),
+        6 | 8 | 10 | 12 | 14 | 16 | 18 => Ok(()),
         _ => Err(refused(14, &[])),
     }
 }
 
-/// The length of the shortest simple cycle, or 12 where none is shorter than 12.
-pub fn girth(graph: &Graph) -> usize {
+/// The length of the shortest simple cycle, or 18 where none is shorter than 18. The search starts from the bits with z = 0
+/// alone: to add 1 to every y and z, modulo the lift, maps the graph to itself, so that some shortest cycle has such a bit.
+pub fn girth(graph: &Graph, lift: usize) -> usize {
+    girth_from(graph, (0..graph.checks_of.len()).step_by(lift))
+}
+
+/// The same by a search from every bit.
+pub fn girth_from_every_bit(graph: &Graph) -> usize {
+    girth_from(graph, 0..graph.checks_of.len())
+}
+
+fn girth_from(graph: &Graph, starts: impl Iterator<Item = usize>) -> usize {
     let mut search = Search::new(graph);
-    for bit in 0..graph.checks_of.len() {
+    for bit in starts {
         search.from(bit);
         if search.least == 4 {
             break;
@@ -37,7 +47,7 @@ struct Search<'a> {
 impl Search<'_> {
     fn new(graph: &Graph) -> Search<'_> {
         let nodes = graph.checks_of.len() + graph.bits_of.len();
-        Search { graph, met: vec![usize::MAX; nodes], depth: vec![0; nodes], parent: vec![usize::MAX; nodes], least: 12 }
+        Search { graph, met: vec![usize::MAX; nodes], depth: vec![0; nodes], parent: vec![usize::MAX; nodes], least: 18 }
     }
 
     // An edge between two nodes of the tree closes a walk that holds a cycle no longer than it; from a bit of a shortest

@@ -6,6 +6,7 @@ pub mod gf2;
 pub mod girth;
 pub mod graph;
 pub mod plan;
+pub mod steiner;
 pub mod table;
 pub mod word;
 

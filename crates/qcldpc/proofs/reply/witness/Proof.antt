@@ -10,12 +10,12 @@ use borrow.Author.Needs.{needs}
 use Rattle.qcldpc.proofs.reply.witness.Statement.{statement}
 use Rattle.qcldpc.proofs.reply.witness.Tie as tie
 
--- five places each
-five-checks : (c : tie.Start) → length (c .args .t .checks) ≡ 5
-five-checks c = search needs
+-- eight places each
+eight-checks : (c : tie.Start) → length (c .args .t .checks) ≡ 8
+eight-checks c = search needs
 
-five-bits : (c : tie.Start) → length (c .args .t .bits) ≡ 5
-five-bits c = search needs
+eight-bits : (c : tie.Start) → length (c .args .t .bits) ≡ 8
+eight-bits c = search needs
 
 -- the first `put` keeps the length
 kept : (c : tie.After-put) → length (c .put .last .0) ≡ length (c .before .before .before .before .before .before .args .out .now)
@@ -28,13 +28,13 @@ slice-aggregate-put : tie.Need-slice-aggregate-put
 slice-aggregate-put c = search needs
 
 put-requires : tie.Need-put-requires
-put-requires c κs = simp length-set (omega (arith, five-checks (c .before .before .before .before .before)))
+put-requires c κs = simp length-set (omega (arith, eight-checks (c .before .before .before .before .before)))
 
 slice-aggregate-put-2 : tie.Need-slice-aggregate-put-2
 slice-aggregate-put-2 c = search needs
 
 put-requires-2 : tie.Need-put-requires-2
-put-requires-2 c κs = let p = c .before .before .before .before in omega (arith, kept p, five-bits (p .before .before .before .before .before .before))
+put-requires-2 c κs = let p = c .before .before .before .before in omega (arith, kept p, eight-bits (p .before .before .before .before .before .before))
 
 same-length : tie.Need-same-length
 same-length c = c .before .before .put2 .kept .0 ∙ kept (c .before .before .before .before .before .before .before)

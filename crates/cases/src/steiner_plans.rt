@@ -1,0 +1,110 @@
+// Steiner triple plans of each order (document 02, slip 6): sizes, verdicts and entries, and each refusal of the builder.
+use crate::say::built;
+use crate::say::number;
+use crate::say::refused;
+use crate::say::say;
+use exponent::block;
+use exponent::block::Block;
+use square::signed;
+use table::Built;
+
+// One voltage for each place.
+fn fill(voltages: &mut [i16]) {
+    for k in 0..voltages.len() {
+        voltages[k] = signed::make(true, k % 1000 * 37 % 1009);
+    }
+}
+
+fn show_entry(b: Block) {
+    match b {
+        Block::Shift(e) => number(b" ", e),
+        Block::Zero => say(b" ."),
+        Block::Invalid => say(b" ?"),
+    }
+}
+
+// The entries, with a line for each row.
+fn show(plan: &[i16], cols: usize, lift: usize) {
+    let mut left = cols;
+    for place in 0..plan.len() {
+        show_entry(block::entry_at(plan, lift, place));
+        if left < 2 {
+            say(b"\n");
+            left = cols;
+        } else {
+            left = left - 1;
+        }
+    }
+}
+
+// Builds a plan in a lent place and says what came of it.
+fn build(order: usize, lift: usize, voltages: &[i16], plan: &mut [i16]) {
+    number(b"steiner ", order);
+    number(b", P = ", lift);
+    say(b": ");
+    match steiner::build(order, lift, voltages, plan) {
+        Built::Refused(r) => refused(r),
+        Built::Built { rows, cols } => {
+            built(plan, rows, cols, lift, 6);
+            say(b"\n");
+            show(plan, cols, lift);
+        }
+    }
+    say(b"\n");
+}
+
+pub fn orders_seven_and_nine() {
+    let mut seven = [0i16; 21];
+    let mut plan = [0i16; 49];
+    fill(&mut seven);
+    build(7, 1, &seven, &mut plan);
+    build(7, 40, &seven, &mut plan);
+    let mut nine = [0i16; 36];
+    let mut place = [0i16; 108];
+    fill(&mut nine);
+    build(9, 4096, &nine, &mut place);
+}
+
+pub fn orders_thirteen_and_fifteen() {
+    let mut thirteen = [0i16; 78];
+    let mut plan = [0i16; 338];
+    fill(&mut thirteen);
+    build(13, 2520, &thirteen, &mut plan);
+    let mut fifteen = [0i16; 105];
+    let mut place = [0i16; 525];
+    fill(&mut fifteen);
+    build(15, 1872, &fifteen, &mut place);
+}
+
+pub fn order_nineteen() {
+    let mut voltages = [0i16; 171];
+    let mut plan = [0i16; 1083];
+    fill(&mut voltages);
+    build(19, 1149, &voltages, &mut plan);
+    build(19, 1150, &voltages, &mut plan);
+}
+
+// The lift, the order and the lengths.
+pub fn turned_away() {
+    let voltages = [0i16; 21];
+    let few = [0i16; 20];
+    let mut plan = [0i16; 49];
+    let mut short = [0i16; 48];
+    build(7, 0, &voltages, &mut plan);
+    build(8, 4097, &voltages, &mut plan);
+    build(8, 4096, &voltages, &mut plan);
+    build(9, 40, &voltages, &mut plan);
+    build(7, 40, &few, &mut plan);
+    build(7, 40, &voltages, &mut short);
+}
+
+// A negative voltage, whatever the order and the lengths, unless the plan would have too many bits.
+pub fn negative() {
+    let mut voltages = [0i16; 21];
+    let mut plan = [0i16; 49];
+    voltages[20] = -1;
+    build(19, 1149, &voltages, &mut plan);
+    build(15, 1873, &voltages, &mut plan);
+    voltages[5] = -7;
+    build(8, 40, &voltages, &mut plan);
+}

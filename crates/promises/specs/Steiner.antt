@@ -1,0 +1,38 @@
+-- Document 02, slip 6: Steiner triple plans. The supplied list, and every plan that the builder builds.
+use Prim.Native.Nat.{ℕ}
+use mathlib.Core.Path.{_≡_}
+use mathlib.Core.List.{List}
+use lib.IntN.{ℤ}
+use lib.ListN.{length}
+use Rattle.refusal.specs.Lowest.{lowest}
+use Rattle.graph.specs.Erasure.{Codeword}
+use Rattle.exponent.specs.Tanner.{tanner}
+use Rattle.table.specs.declared.Built.the-variants.{Built}
+use Rattle.table.specs.Build.{lent}
+use Rattle.steiner.specs.System as system
+use Rattle.steiner.specs.Listed.{Listed, PairsOnce}
+use Rattle.steiner.specs.Build.{buildRules, steinerPlan, built}
+use Rattle.steiner.specs.Plans as plans
+use Rattle.promises.specs.Two.{Passing}
+use Rattle.promises.specs.Three.{Loses, Recovered}
+
+-- a built plan: its sizes, what it holds, that the girth test passes it at 6, and that so three lost bits come back
+pub record SteinerPlan (order lift : ℕ) (voltages plan : List ℤ) (rows cols : ℕ) : Type 0 where
+  pub points-are-rows : rows ≡ order
+  pub triples-are-columns : cols ≡ system.cols order
+  pub holds : plans.Built order lift voltages plan
+  pub passing : Passing plan rows cols lift 6
+  pub three-lost : (f f′ : List ℕ) → Codeword (tanner plan rows cols lift) f → Loses f f′ 3 → Recovered plan rows cols lift f f′
+
+-- wherever the builder answers that it built, of what its lent place then holds
+abbrev pub SteinerPlans : Type 0
+SteinerPlans =
+    (order lift : ℕ) (voltages place : List ℤ) (rows cols : ℕ)
+    → (let refusal = lowest (buildRules order lift voltages (length place)) in
+    built refusal order ≡ Built rows cols
+    → SteinerPlan order lift voltages (lent refusal (steinerPlan order lift voltages) place) rows cols)
+
+pub record SteinerTriples : Type 0 where
+  pub the-list : Listed
+  pub pairs : PairsOnce
+  pub plans : SteinerPlans

@@ -1,0 +1,55 @@
+-- Each refusal of the builder at its edge, computed: a table of lent values with the answer of the rules. Assumes nothing.
+use Prim.Native.Nat.{ℕ}
+use mathlib.Core.Path.{_≡_, refl}
+use mathlib.Core.List.{List, [], _∷_}
+use mathlib.Core.Option.{Option, none, some}
+use lib.IntN.{ℤ, pos, negsuc}
+use lib.ListN.{replicate}
+use Rattle.refusal.specs.declared.Refusal.{Refusal}
+use Rattle.refusal.specs.declared.Refusal.the-variants.{Lift, Bits, Entry, SteinerOrder, SteinerLength}
+use Rattle.refusal.specs.Lowest.{lowest}
+use Rattle.refusal.specs.Place.{firstPlace}
+use Rattle.graph.specs.Count.{member}
+use Rattle.steiner.specs.System.{isOrder, cols}
+use Rattle.steiner.specs.Build.{buildRules}
+
+abbrev zeros : ℕ → List ℤ
+zeros n = replicate n (pos 0)
+
+pub record Case : Type 0 where
+  pub order : ℕ
+  pub lift : ℕ
+  pub voltages : List ℤ
+  pub room : ℕ
+  pub answer : Option Refusal
+
+abbrev case : ℕ → ℕ → List ℤ → ℕ → Option Refusal → Case
+case order lift voltages room answer = record { order = order; lift = lift; voltages = voltages; room = room; answer = answer }
+
+-- each refusal, and the last values that are taken; the lowest number where several apply
+abbrev pub cases : List Case
+cases =
+    case 7 1 (zeros 21) 49 none
+    ∷ case 9 4096 (zeros 36) 108 none
+    ∷ case 13 2520 (zeros 78) 338 none
+    ∷ case 13 2521 (zeros 78) 338 (some Bits)
+    ∷ case 15 1872 (zeros 105) 525 none
+    ∷ case 15 1873 (zeros 105) 525 (some Bits)
+    ∷ case 19 1149 (zeros 171) 1083 none
+    ∷ case 19 1150 (zeros 171) 1083 (some Bits)
+    ∷ case 19 0 (zeros 171) 1083 (some Lift)
+    ∷ case 19 4097 (negsuc 0 ∷ []) 0 (some Lift)
+    ∷ case 19 1150 (negsuc 0 ∷ []) 0 (some Bits)
+    ∷ case 20 4096 (pos 0 ∷ negsuc 0 ∷ []) 0 (some (Entry 1))
+    ∷ case 20 4096 (zeros 3) 0 (some SteinerOrder)
+    ∷ case 7 1 (zeros 20) 49 (some SteinerLength)
+    ∷ case 7 1 (zeros 21) 48 (some SteinerLength)
+    ∷ []
+
+abbrev Hold : List Case → Type 0
+Hold [] = Unit {0}
+Hold (c ∷ l) = (lowest (buildRules (c .order) (c .lift) (c .voltages) (c .room)) ≡ c .answer) × Hold l
+
+pub cases-hold : Hold cases
+unfolding lowest buildRules isOrder member cols firstPlace
+cases-hold = (refl, (refl, (refl, (refl, (refl, (refl, (refl, (refl, (refl, (refl, (refl, (refl, (refl, (refl, (refl, tt)))))))))))))))

@@ -1,0 +1,52 @@
+-- The builder (document 02, slip 6): its refusals in rising order of number, its plan, its answer.
+use Prim.Native.Nat.{ℕ, _+_, _*_, _%_, _≤_}
+use mathlib.Core.Path.{_≡_}
+use mathlib.Core.Bool.{true, not, _||_}
+use mathlib.Core.List.{List, [], _∷_}
+use mathlib.Core.Option.{Option, none, some}
+use lib.Dec.{eqb}
+use lib.IntN.{ℤ, pos}
+use lib.ListN.{length, getD}
+use Rattle.refusal.specs.declared.Refusal.{Refusal}
+use Rattle.refusal.specs.declared.Refusal.the-variants.{Lift, Bits, Entry, SteinerOrder, SteinerLength}
+use Rattle.refusal.specs.Lowest.{Rule, refuse}
+use Rattle.refusal.specs.Place.{firstPlace, somewhere}
+use Rattle.exponent.specs.Limits.{outside}
+use Rattle.square.specs.Each.{each}
+use Rattle.square.specs.Table.{signed, natural, negative, block}
+use Rattle.table.specs.declared.Built.{Built as BuiltAnswer}
+use Rattle.table.specs.declared.Built.the-variants.{Built, Refused}
+use Rattle.steiner.specs.System.{isOrder, cols, tripleAt, placeIn, has, tooLong}
+
+-- the lift; too many bits; a negative voltage, with its first place; the order; the lengths of the voltages and of the plan's place
+unfoldable pub buildRules : ℕ → ℕ → List ℤ → ℕ → List Rule
+buildRules order lift voltages room =
+    refuse Lift (outside 1 4096 lift)
+    ∷ refuse Bits (tooLong order lift)
+    ∷ refuse (Entry (firstPlace negative voltages)) (somewhere negative voltages)
+    ∷ refuse SteinerOrder (not (isOrder order))
+    ∷ refuse SteinerLength (not (eqb (length voltages) (3 * cols order)) || not (eqb room (order * cols order)))
+    ∷ []
+
+-- the voltage at a place
+abbrev pub voltageAt : List ℤ → ℕ → ℕ
+voltageAt voltages n = natural (signed (getD voltages n (pos 0)))
+
+-- the entry of point i and triple j: the voltage of that point of the triple modulo the lift, and −1 elsewhere
+unfoldable pub entry : ℕ → ℕ → List ℤ → ℕ → ℕ → ℤ
+entry order lift voltages i j = block (has (tripleAt order j) i) (voltageAt voltages (3 * j + placeIn (tripleAt order j) i) % lift)
+
+-- the plan, row by row: points from 0, triples in the order of the list
+unfoldable pub steinerPlan : ℕ → ℕ → List ℤ → List ℤ
+steinerPlan order lift voltages = each order (λ i. each (cols order) (λ j. entry order lift voltages i j ∷ []))
+
+abbrev pub built : Option Refusal → ℕ → BuiltAnswer
+built none order = Built order (cols order)
+built (some r) order = Refused r
+
+-- what the inner functions require
+pub record Ready (order lift : ℕ) (voltages : List ℤ) : Type 0 where
+  pub known : isOrder order ≡ true
+  pub some-lift : 1 ≤ lift
+  pub small-lift : lift ≤ 4096
+  pub whole : length voltages ≡ 3 * cols order

@@ -1,0 +1,5 @@
+pub mod Points
+pub mod System
+pub mod Listed
+pub mod Build
+pub mod Plans
