@@ -16,7 +16,7 @@ use Rattle.refusal.specs.Lowest.{refuse, In}
 use Rattle.refusal.specs.Place.{First, firstPlace, somewhere}
 use Rattle.refusal.proofs.Place.{first-exactly}
 use Rattle.graph.specs.Count.{member}
-use Rattle.graph.proofs.Decide.{by-bool, both-ways, and-left, and-right, and-both}
+use Rattle.graph.proofs.Decide.{by-bool, both-ways, or-either, and-left, and-right, and-both}
 use Rattle.exponent.specs.Limits.{outside}
 use Rattle.exponent.proofs.Rules.{outside-exactly}
 use Rattle.square.specs.Table.{negative}
@@ -48,12 +48,8 @@ unknown-exactly order = (
 
 -- either test
 either-exactly : (a b : Bool) {A B : Type 0} → ((a ≡ true) ↔ A) → ((b ≡ true) ↔ B) → ((a || b) ≡ true) ↔ (A ⊎ B)
-either-exactly a b {A} {B} f g = (from a f, to)
+either-exactly a b {A} {B} f g = (λ e. elim (or-either a b e) [ inl p ↦ inl (f .0 p) | inr q ↦ inr (g .0 q) ], to)
   where
-    from : (a : Bool) → ((a ≡ true) ↔ A) → (a || b) ≡ true → A ⊎ B
-    from true f e = inl (f .0 refl)
-    from false f e = inr (g .0 e)
-
     second : (a : Bool) → b ≡ true → (a || b) ≡ true
     second true e = refl
     second false e = e

@@ -12,7 +12,7 @@ use Rattle.table.specs.Build.{lent}
 use Rattle.steiner.specs.System as system
 use Rattle.steiner.specs.Listed.{Listed, PairsOnce}
 use Rattle.steiner.specs.Build.{buildRules, steinerPlan, built}
-use Rattle.steiner.specs.Plans as plans
+use Rattle.steiner.specs.Plans.{TriplePlan}
 use Rattle.promises.specs.Two.{Passing}
 use Rattle.promises.specs.Three.{Loses, Recovered}
 
@@ -20,7 +20,7 @@ use Rattle.promises.specs.Three.{Loses, Recovered}
 pub record SteinerPlan (order lift : ℕ) (voltages plan : List ℤ) (rows cols : ℕ) : Type 0 where
   pub points-are-rows : rows ≡ order
   pub triples-are-columns : cols ≡ system.cols order
-  pub holds : plans.Built order lift voltages plan
+  pub holds : TriplePlan order lift voltages plan
   pub passing : Passing plan rows cols lift 6
   pub three-lost : (f f′ : List ℕ) → Codeword (tanner plan rows cols lift) f → Loses f f′ 3 → Recovered plan rows cols lift f f′
 

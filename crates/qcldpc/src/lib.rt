@@ -1,5 +1,5 @@
 // The C interface of the library, for Rust and C: `rt staticlib qcldpc`.
-// Each function returns 0, or the number of a refusal (document 01, "Turned away"), and puts values into `out` (specs/Door.antt).
+// Each function returns 0, or the number of a refusal (documents 01 and 02), and puts values into `out` (specs/Door.antt).
 ghost use mathlib.Core.Path.{_≡_};
 ghost use Prim.Native.Nat.{ℕ};
 ghost use lib.ListN.{length};

@@ -1,4 +1,4 @@
--- Each number of document 01 stands for one case, in the document's order. Assumes nothing.
+-- Each number of documents 01 and 02 stands for one case, in their order. Assumes nothing.
 use Prim.Native.Nat.{ℕ, _≤_}
 use mathlib.Core.Path.{_≡_, refl}
 use mathlib.Core.List.{List, [], _∷_, map}

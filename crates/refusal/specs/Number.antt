@@ -1,4 +1,4 @@
--- The number and the values of each refusal (document 01, "Turned away").
+-- The number and the values of each refusal (document 01, "Turned away", and document 02's slips).
 use Prim.Native.Nat.{ℕ}
 use mathlib.Core.List.{List, [], _∷_}
 use Rattle.refusal.specs.declared.Refusal.{Refusal}

@@ -4,4 +4,4 @@ pub mod Computed
 pub mod Listed
 pub mod Accepted
 pub mod Plans
-pub mod Bench
+pub mod Cases

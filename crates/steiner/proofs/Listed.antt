@@ -2,7 +2,7 @@
 use Prim.Native.Nat.{ℕ, suc, _+_, _-_, _/_, _%_, _<_}
 use mathlib.Core.Path.{_≡_, refl, sym, subst}
 use mathlib.Core.Logic.{_↔_, _⊎_, inl, inr}
-use mathlib.Core.Bool.{Bool, true, false, _&&_, _||_}
+use mathlib.Core.Bool.{Bool, true, _&&_, _||_}
 use mathlib.Core.List.{List, [], _∷_}
 use native.Mathlib.Omega.{arith}
 use lib.Dec.{ltb, eqb}
@@ -11,7 +11,7 @@ use borrow.Author.Tests.{ltb-true, lt-ltb, eqb-true, eq-eqb}
 use Rattle.refusal.specs.Place.{firstPlace, somewhere}
 use Rattle.refusal.proofs.Place.{at-first}
 use Rattle.graph.specs.Count.{below, member, Mem}
-use Rattle.graph.proofs.Decide.{by-bool, and-left, and-right, and-both}
+use Rattle.graph.proofs.Decide.{by-bool, or-either, and-left, and-right, and-both}
 use Rattle.graph.proofs.Lists.{mem-image, getD-mem}
 use Rattle.graph.proofs.Count.{mem-range, range-mem}
 use Rattle.graph.proofs.Cases.{all, all-at}
@@ -102,13 +102,9 @@ affine-exactly t =
 before : Triple → Triple → Bool
 before t u = ltb (t .a) (u .a) || (eqb (t .a) (u .a) && (ltb (t .b) (u .b) || (eqb (t .b) (u .b) && ltb (t .c) (u .c))))
 
-either : (a b : Bool) → (a || b) ≡ true → (a ≡ true) ⊎ (b ≡ true)
-either true b e = inl refl
-either false b e = inr e
-
 is-before : (t u : Triple) → before t u ≡ true → Before t u
 unfolding before
-is-before t u e = first (either (ltb (t .a) (u .a)) _ e)
+is-before t u e = first (or-either (ltb (t .a) (u .a)) _ e)
   where
     second : t .a ≡ u .a → (ltb (t .b) (u .b) ≡ true) ⊎ ((eqb (t .b) (u .b) && ltb (t .c) (u .c)) ≡ true) → Before t u
     second p (inl h) = inr (p, inl (ltb-true _ _ h))
@@ -116,7 +112,7 @@ is-before t u e = first (either (ltb (t .a) (u .a)) _ e)
 
     first : (ltb (t .a) (u .a) ≡ true) ⊎ ((eqb (t .a) (u .a) && (ltb (t .b) (u .b) || (eqb (t .b) (u .b) && ltb (t .c) (u .c)))) ≡ true) → Before t u
     first (inl h) = inl (ltb-true _ _ h)
-    first (inr h) = second (eqb-true _ _ (and-left (eqb (t .a) (u .a)) _ h)) (either (ltb (t .b) (u .b)) _ (and-right (eqb (t .a) (u .a)) _ h))
+    first (inr h) = second (eqb-true _ _ (and-left (eqb (t .a) (u .a)) _ h)) (or-either (ltb (t .b) (u .b)) _ (and-right (eqb (t .a) (u .a)) _ h))
 
 rising : (v : ℕ) → isOrder v ≡ true → all (cols v - 1) (λ j. before (tripleAt v j) (tripleAt v (suc j))) ≡ true
 unfolding points cols startAmong start tripleAt before

@@ -31,7 +31,7 @@ use Rattle.grid.proofs.Edges.{entry-valid, entry-filled, entry-edge}
 use Rattle.steiner.specs.declared.system.Triple.{Triple}
 use Rattle.steiner.specs.System.{isOrder, cols, tripleAt, placeIn, has}
 use Rattle.steiner.specs.Build.{buildRules, voltageAt, entry, steinerPlan}
-use Rattle.steiner.specs.Plans.{Point, first, second, third, EntryOf, Built}
+use Rattle.steiner.specs.Plans.{Point, first, second, third, EntryOf, TriplePlan}
 use Rattle.steiner.proofs.Orders.{small}
 use Rattle.steiner.proofs.Pairs.{triple-rises, three-points, half-triples, share-one}
 use Rattle.steiner.proofs.Accepted.{taken}
@@ -191,7 +191,7 @@ module _ (v P : ℕ) (voltages : List ℤ) (known : isOrder v ≡ true) (p : 0 <
 
 -- THE THEOREM: every plan that `build` builds
 pub built-plan : (order lift : ℕ) (voltages : List ℤ) (room : ℕ) → lowest (buildRules order lift voltages room) ≡ none
-    → Built order lift voltages (steinerPlan order lift voltages)
+    → TriplePlan order lift voltages (steinerPlan order lift voltages)
 unfolding ThreeBlocks
 built-plan order lift voltages room e =
     let t = taken order lift voltages room e in

@@ -5,6 +5,7 @@ ghost use Rattle.steiner.specs.Points.{points};
 
 // The triples of all five orders (document 02, slip 6): orders rise, and so do the triples of an order. specs/Listed.antt says which they are.
 const POINTS: [u8; 411] = [
+    // order 7
     0,
     1,
     3,
@@ -26,6 +27,7 @@ const POINTS: [u8; 411] = [
     3,
     4,
     6,
+    // order 9
     0,
     1,
     2,
@@ -62,6 +64,7 @@ const POINTS: [u8; 411] = [
     6,
     7,
     8,
+    // order 13
     0,
     1,
     4,
@@ -140,6 +143,7 @@ const POINTS: [u8; 411] = [
     8,
     9,
     12,
+    // order 15
     0,
     1,
     4,
@@ -245,6 +249,7 @@ const POINTS: [u8; 411] = [
     10,
     11,
     14,
+    // order 19
     0,
     1,
     6,

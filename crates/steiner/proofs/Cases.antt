@@ -1,17 +1,21 @@
--- Each refusal of the builder at its edge, computed: a table of lent values with the answer of the rules. Assumes nothing.
+-- Computed cases: each refusal of the builder at its edge, as a table of lent values with the answer of the rules; and a plan of order 7.
+-- Assumes nothing.
 use Prim.Native.Nat.{ℕ}
 use mathlib.Core.Path.{_≡_, refl}
-use mathlib.Core.List.{List, [], _∷_}
+use mathlib.Core.Bool.{cond}
+use mathlib.Core.List.{List, [], _∷_, map}
 use mathlib.Core.Option.{Option, none, some}
+use lib.Dec.{ltb}
 use lib.IntN.{ℤ, pos, negsuc}
 use lib.ListN.{replicate}
 use Rattle.refusal.specs.declared.Refusal.{Refusal}
 use Rattle.refusal.specs.declared.Refusal.the-variants.{Lift, Bits, Entry, SteinerOrder, SteinerLength}
 use Rattle.refusal.specs.Lowest.{lowest}
 use Rattle.refusal.specs.Place.{firstPlace}
-use Rattle.graph.specs.Count.{member}
-use Rattle.steiner.specs.System.{isOrder, cols}
-use Rattle.steiner.specs.Build.{buildRules}
+use Rattle.graph.specs.Count.{range, below, member}
+use Rattle.steiner.specs.Points.{points}
+use Rattle.steiner.specs.System.{isOrder, cols, startAmong, start, tripleAt}
+use Rattle.steiner.specs.Build.{buildRules, entry, steinerPlan}
 
 abbrev zeros : ℕ → List ℤ
 zeros n = replicate n (pos 0)
@@ -53,3 +57,22 @@ Hold (c ∷ l) = (lowest (buildRules (c .order) (c .lift) (c .voltages) (c .room
 pub cases-hold : Hold cases
 unfolding lowest buildRules isOrder member cols firstPlace
 cases-hold = (refl, (refl, (refl, (refl, (refl, (refl, (refl, (refl, (refl, (refl, (refl, (refl, (refl, (refl, (refl, tt)))))))))))))))
+
+-- the plan of order 7 at lift 5 with the voltages 0 to 20, row by row, where 9 stands for an empty block. Its triples are
+-- 0 1 3, 0 2 6, 0 4 5, 1 2 4, 1 5 6, 2 3 5, 3 4 6
+abbrev shown : ℕ → ℤ
+shown n = cond (ltb n 5) (pos n) (negsuc 0)
+
+abbrev seven : List ℕ
+seven =
+    0 ∷ 3 ∷ 1 ∷ 9 ∷ 9 ∷ 9 ∷ 9
+    ∷ 1 ∷ 9 ∷ 9 ∷ 4 ∷ 2 ∷ 9 ∷ 9
+    ∷ 9 ∷ 4 ∷ 9 ∷ 0 ∷ 9 ∷ 0 ∷ 9
+    ∷ 2 ∷ 9 ∷ 9 ∷ 9 ∷ 9 ∷ 1 ∷ 3
+    ∷ 9 ∷ 9 ∷ 2 ∷ 1 ∷ 9 ∷ 9 ∷ 4
+    ∷ 9 ∷ 9 ∷ 3 ∷ 9 ∷ 3 ∷ 2 ∷ 9
+    ∷ 9 ∷ 0 ∷ 9 ∷ 9 ∷ 4 ∷ 9 ∷ 0 ∷ []
+
+pub plan-7 : steinerPlan 7 5 (map pos (below 21)) ≡ map shown seven
+unfolding steinerPlan entry cols startAmong start tripleAt points range
+plan-7 = refl
