@@ -19,7 +19,7 @@ use Rattle.girth.specs.declared.GirthTest.{GirthTest}
 use Rattle.girth.specs.declared.Outcome.{Outcome}
 use Rattle.girth.specs.declared.Outcome.the-variants.{Passed, Failed, Refused}
 
--- the targets that are allowed
+-- the targets that are allowed; from 14 on: document 02, slip 6
 abbrev pub targets : List ℕ
 targets = 6 ∷ 8 ∷ 10 ∷ 12 ∷ 14 ∷ 16 ∷ 18 ∷ []
 

@@ -14,7 +14,7 @@ use Rattle.refusal.specs.Place.{firstPlace, somewhere}
 use Rattle.refusal.proofs.Place.{at-first}
 use Rattle.graph.specs.Count.{range, below, select, one, member, isSome, Mem}
 use Rattle.graph.proofs.Decide.{by-bool, by-le, both-ways, and-left, and-right, same-bool}
-use Rattle.graph.proofs.Lists.{mem-left, mem-right, mem-append, getD-mem}
+use Rattle.graph.proofs.Lists.{mem-left, mem-right, mem-append, mem-image, getD-mem}
 use Rattle.graph.proofs.Count.{mem-range, range-mem, range-append, select-append, member-mem, mem-member}
 use Rattle.exponent.proofs.Numbers.{block-of, place-of, number-low}
 use Rattle.square.specs.Each.{each, upon, grid}
@@ -79,11 +79,6 @@ grid-map {B = B} {N = N} f g h p q e (a ∷ al) bs =
     line : (bs : List B) → map h (map (f a) bs) ≡ map (g (p a)) (map q bs)
     line [] = refl
     line (b ∷ bs) = ap₂ (λ (x : N) (l : List N). x ∷ l) (e a b) (line bs)
-
-map-mem : {A : Type 0} (g : ℕ → A) (n : ℕ) (l : List ℕ) → Mem n l → Mem (g n) (map g l)
-map-mem g n [] m = m
-map-mem g n (y ∷ l) (inl e) = inl (ap g e)
-map-mem g n (y ∷ l) (inr m) = inr (map-mem g n l m)
 
 -- some element of the image passes
 tally-first : {A : Type 0} (f : A → Bool) (g : ℕ → A) (l : List ℕ) → 1 ≤ tally f (map g l) → firstPlace (λ n. f (g n)) l < length l
@@ -211,7 +206,7 @@ module _ (J L : ℕ) (s : ℕ → ℕ → ℕ) (bytes : List ℕ) (w : Common J 
       let same : suc (j * J + r) + J * J * a ≡ suc c = omega (arith, digits-are c) in
       mem-left (suc c) (each L (λ i. map (λ n. n + J * J * i) (deletedOnce J mask))) _
       (each-mem (suc c) L _ a ha (subst (λ (n : ℕ). Mem n (map (λ n. n + J * J * a) (deletedOnce J mask))) same
-      (map-mem (λ n. n + J * J * a) (suc (j * J + r)) (deletedOnce J mask) (in-once j r (digit J some-order (c / J)) (digit J some-order c) e))))
+      (mem-image (λ n. n + J * J * a) (suc (j * J + r)) (deletedOnce J mask) (in-once j r (digit J some-order (c / J)) (digit J some-order c) e))))
 
   late-deleted : (c : ℕ) → L * J * J ≤ c → c < J * J * J → Mem (suc c) (deleted J L (maskAt J bytes))
   unfolding deleted
@@ -250,7 +245,7 @@ module _ (J L : ℕ) (s : ℕ → ℕ → ℕ) (bytes : List ℕ) (w : Common J 
       let h : k < length cols = ltb-true k (length cols) e in
       let c = getD cols k 0 in
       meets-fixed v (column J c)
-      (mem-column J L mask some-order (column J c) (subst (Mem (column J c)) (sym (columns-selected J L mask some-order)) (map-mem (column J) c cols (getD-mem cols k 0 h))))
+      (mem-column J L mask some-order (column J c) (subst (Mem (column J c)) (sym (columns-selected J L mask some-order)) (mem-image (column J) c cols (getD-mem cols k 0 h))))
       (at-first test 0 cols h)
 
   fixed-used : (v : Row) → Fixed J L (maskAt J bytes) (v .part) (v .one) (v .two) → used v ≡ true

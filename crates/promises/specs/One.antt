@@ -106,7 +106,7 @@ pub record Promise-1 : Type 0 where
       let answer = ofBuilt (built refusal order (weight order mask)) in
       LowestOf (LiftRow lift or SquareRow order (length table) or TableRow order lift table or (MaskRow order lift mask or PlaceRow order mask (length plan))) answer
       × Unchanged answer plan (lent refusal (builtPlan order lift table mask) plan)
-  -- 3, 4, 6, 22, 23
+  -- 3, 4, 6, 22, 23 (document 02, slip 6)
   pub steiner : (order lift : ℕ) (voltages plan : List ℤ)
       → let refusal = lowest (steiner-build.buildRules order lift voltages (length plan)) in
       let answer = ofBuilt (steiner-build.built refusal order) in

@@ -32,6 +32,7 @@ SteinerPlans =
     built refusal order ≡ Built rows cols
     → SteinerPlan order lift voltages (lent refusal (steinerPlan order lift voltages) place) rows cols)
 
+-- which triples the list has, that they cover each pair of points once, and what is built from them
 pub record SteinerTriples : Type 0 where
   pub the-list : Listed
   pub pairs : PairsOnce

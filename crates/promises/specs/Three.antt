@@ -20,7 +20,7 @@ use Rattle.syndrome.specs.Check.{syndromeOf}
 use Rattle.peeling.specs.declared.Filling.the-variants.{Filled}
 use Rattle.peeling.specs.Fill.{fillAnswer, fillWord}
 
--- how many lost bits always come back at a target
+-- how many lost bits always come back at a target; from 14 on: document 02, slip 6
 pub data Bound : ℕ → ℕ → Type 0 where
   at-6 : Bound 6 3
   at-8 : Bound 8 5

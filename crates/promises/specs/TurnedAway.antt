@@ -1,5 +1,5 @@
--- The rows of "Turned away" (document 01), and of document 02's slips, by who can cause them: when each number applies, and with which values. Each row stands here
--- once; the refusals of a call are its rows together (One.antt). Places count from 0.
+-- The rows of "Turned away" (document 01) and of document 02's slips, by who can cause them: when each number applies, and with which
+-- values. Each row stands here once; the refusals of a call are its rows together (One.antt). Places count from 0.
 use Prim.Native.Nat.{ℕ, suc, _+_, _-_, _*_, _/_, _≤_, _<_, max}
 use mathlib.Core.Path.{_≡_}
 use mathlib.Core.Logic.{_↔_, _⊎_, _≢_}
