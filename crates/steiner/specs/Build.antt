@@ -28,7 +28,7 @@ buildRules order lift voltages room =
     ∷ refuse SteinerLength (not (eqb (length voltages) (3 * cols order)) || not (eqb room (order * cols order)))
     ∷ []
 
--- the voltage at a place
+-- the voltage at a place (a negative one, which 6 turns away, is taken for 0)
 abbrev pub voltageAt : List ℤ → ℕ → ℕ
 voltageAt voltages n = natural (signed (getD voltages n (pos 0)))
 
@@ -40,6 +40,7 @@ entry order lift voltages i j = block (has (tripleAt order j) i) (voltageAt volt
 unfoldable pub steinerPlan : ℕ → ℕ → List ℤ → List ℤ
 steinerPlan order lift voltages = each order (λ i. each (cols order) (λ j. entry order lift voltages i j ∷ []))
 
+-- the answer: points are rows, triples are columns
 abbrev pub built : Option Refusal → ℕ → BuiltAnswer
 built none order = Built order (cols order)
 built (some r) order = Refused r

@@ -24,7 +24,7 @@ pub record EntryOf (order lift : ℕ) (voltages : List ℤ) (i j : ℕ) (e : ℤ
   pub filled : (k : ℕ) → Point (tripleAt order j) k i → e ≡ pos (voltageAt voltages (3 * j + k) % lift)
   pub empty : ((k : ℕ) → Point (tripleAt order j) k i → ⊥) → e ≡ negsuc 0
 
--- the whole
+-- what a built plan is
 pub record TriplePlan (order lift : ℕ) (voltages plan : List ℤ) : Type 0 where
   -- refusals 1 to 6 cannot fall on it
   pub well-formed : WellFormed plan order (cols order) lift

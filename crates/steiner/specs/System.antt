@@ -8,6 +8,7 @@ use Rattle.graph.specs.Count.{member}
 use Rattle.steiner.specs.declared.system.Triple.{Triple}
 use Rattle.steiner.specs.Points.{points}
 
+-- the orders that are supplied
 abbrev pub orders : List ℕ
 orders = 7 ∷ 9 ∷ 13 ∷ 15 ∷ 19 ∷ []
 
