@@ -1,15 +1,21 @@
-/* Quasi-cyclic LDPC plans: the twelve functions of libqcldpc.a (`rt staticlib qcldpc`), for C99 on x86-64. A program is linked
- * with them by `-L target/staticlib -lqcldpc`.
+/* Quasi-cyclic LDPC plans: the thirteen functions of libqcldpc.a (`rt staticlib qcldpc`), for C99 on x86-64. A program is
+ * linked with them by `-L target/staticlib -lqcldpc`.
  *
  * A plan is rows x cols numbers, row by row: -1 is a zero (empty) block, e from 0 to 32,767 the identity with its rows
  * shifted right by the remainder of e by the lift; below -1 there is no block (refusal 6). A word is cols x lift bytes: 0 or
  * 1 for a known bit, 2 for an erasure. Bit z of column j is number j * lift + z, check y of row i is number i * lift + y; all
  * numbers and places count from 0.
  *
+ * Beside a plan lie its weights, two lists: how many filled blocks (entries from 0 on) each row has, `rows` numbers, and how
+ * many each column has, `cols` numbers. The calls that build a plan fill them, qcldpc_change keeps them true, and the calls
+ * for alist text read them; no other call takes them.
+ *
  * Every function returns 0 for a result, or the number of a refusal (README.md, "Refusals"): the lowest that applies, and
  * then nothing lent is changed but the refusal's values, which stand in `out` from out[0] on:
  *     6, 9, 18, 19  the first place        10  i, k, r, t        17  the length needed        21  the place in the text
- * The other refusals have no values. Places of `out` that are not named for an answer keep what was in them.
+ * The other refusals have no values. Where the new entry of qcldpc_change is below -1, the place of 6 is rows x cols, one past
+ * the plan's last. 24 is a row or column outside the plan; 25, looked at last, a list of weights of the wrong length or, unless
+ * the call builds the plan, with a wrong count. Places of `out` that are not named for an answer keep what was in them.
  * `out` needs QCLDPC_OUT places; with fewer, every function returns QCLDPC_NO_ROOM and changes nothing.
  *
  * Nothing is asked of numbers and bytes. Each pointer points to as many elements as the length behind it says (none are
@@ -68,32 +74,45 @@ uint64_t qcldpc_array_table(uint64_t order, int16_t *table, size_t table_len, ui
 uint64_t qcldpc_cyclic_table(uint64_t order, int16_t *table, size_t table_len, uint64_t *out, size_t out_len);
 
 /* The plan of a table and a mask of order x order bytes, 0 or 1, with L ones in each row and column (L from 4): it has
- * 3 * L * order rows and order * L * L columns, and `plan` exactly these places. Refusals 3, 7 to 13, 15.
- * out[0] is the number of rows, out[1] of columns. */
+ * 3 * L * order rows and order * L * L columns, and `plan` exactly these places. The plan and its weights are filled in,
+ * whatever stood there. Refusals 3, 7 to 13, 15, 25. out[0] is the number of rows, out[1] of columns. */
 uint64_t qcldpc_build(uint64_t order, uint64_t lift, const int16_t *table, size_t table_len, const uint8_t *mask,
-                      size_t mask_len, int16_t *plan, size_t plan_len, uint64_t *out, size_t out_len);
+                      size_t mask_len, int16_t *plan, size_t plan_len, uint16_t *row_weights, size_t row_weights_len,
+                      uint16_t *col_weights, size_t col_weights_len, uint64_t *out, size_t out_len);
 
 /* The plan of the supplied Steiner triple system of an order v: 7, 9, 13, 15 or 19. Rows are its points from 0, columns its
  * v * (v - 1) / 6 triples, rising by first, second and third point. There is one voltage for each point of each triple,
  * points rising within a triple, so three for each column; an entry is its voltage's remainder by the lift, or -1 where the
- * point is not in the triple. `plan` has exactly order x columns places. Refusals 3, 4 (of the five orders), 6 with the first
- * place of a voltage below 0, 22, 23. out[0] is the number of rows, out[1] of columns. */
+ * point is not in the triple. `plan` has exactly order x columns places. The plan and its weights are filled in, whatever stood
+ * there. Refusals 3, 4 (of the five orders), 6 with the first place of a voltage below 0, 22, 23, 25.
+ * out[0] is the number of rows, out[1] of columns. */
 uint64_t qcldpc_steiner(uint64_t order, uint64_t lift, const int16_t *voltages, size_t voltages_len,
-                        int16_t *plan, size_t plan_len, uint64_t *out, size_t out_len);
+                        int16_t *plan, size_t plan_len, uint16_t *row_weights, size_t row_weights_len,
+                        uint16_t *col_weights, size_t col_weights_len, uint64_t *out, size_t out_len);
 
-/* Writes the alist text of a plan, padded; bytes past it stay. Refusals 1 to 6, 17 (so an empty place asks for the length).
- * out[0] is the text's length. */
+/* Changes one block of a plan: the entry at `row` and `col` becomes `entry`, stored as it is given, and the weights stay
+ * true: nothing but that entry, row_weights[row] and col_weights[col] moves. Refusals 1 to 5; 6 for the first bad entry of the
+ * plan, or else for the new one; 24; 25 where the weights are not those of the plan before the change. A result puts nothing
+ * into `out`. */
+uint64_t qcldpc_change(int16_t *plan, size_t plan_len, uint64_t rows, uint64_t cols, uint64_t lift,
+                       uint64_t row, uint64_t col, int16_t entry, uint16_t *row_weights, size_t row_weights_len,
+                       uint16_t *col_weights, size_t col_weights_len, uint64_t *out, size_t out_len);
+
+/* Writes the alist text of a plan, padded; bytes past it stay. Refusals 1 to 6, 17 (so an empty place asks for the length,
+ * whatever the weights are), 25. out[0] is the text's length. */
 uint64_t qcldpc_alist_write(const int16_t *plan, size_t plan_len, uint64_t rows, uint64_t cols, uint64_t lift,
-                            uint8_t *text, size_t text_len, uint64_t *out, size_t out_len);
+                            const uint16_t *row_weights, size_t row_weights_len, const uint16_t *col_weights,
+                            size_t col_weights_len, uint8_t *text, size_t text_len, uint64_t *out, size_t out_len);
 
 /* Compares a text with the alist of a plan, token by token. A text agrees when it is either form of the alist, whole:
  * padded, with short lists filled up with 0, where line feeds are blanks as space, tab and CR are; or unpadded, with every
  * short list ended by its line, where each line feed is a token, those of blank lines and the last one included. A text
- * with some short lists padded and others not agrees with neither form. Refusals 1 to 6, 21: where a text agrees with
- * neither, the later of the two places at which it first departs from them, each the first byte of a wrong or extra token,
- * or the text's length where it ends early (so an unpadded text without its last line feed shows its length). */
+ * with some short lists padded and others not agrees with neither form. Refusals 1 to 6, 21, 25. 21 shows, where a text
+ * agrees with neither, the later of the two places at which it first departs from them, each the first byte of a wrong or
+ * extra token, or the text's length where it ends early (so an unpadded text without its last line feed shows its length). */
 uint64_t qcldpc_alist_compare(const int16_t *plan, size_t plan_len, uint64_t rows, uint64_t cols, uint64_t lift,
-                              const uint8_t *text, size_t text_len, uint64_t *out, size_t out_len);
+                              const uint16_t *row_weights, size_t row_weights_len, const uint16_t *col_weights,
+                              size_t col_weights_len, const uint8_t *text, size_t text_len, uint64_t *out, size_t out_len);
 
 #ifdef __cplusplus
 }

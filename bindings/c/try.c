@@ -1,4 +1,4 @@
-/* Calls each of the twelve functions from C. Says which line is wrong, or "c: 12 functions answer". */
+/* Calls each of the thirteen functions from C. Says which line is wrong, or "c: 13 functions answer". */
 #include "qcldpc.h"
 
 #include <stdio.h>
@@ -14,9 +14,19 @@ static int wrong;
         } \
     } while (0)
 
-/* The plan of one row with the shifts 0 and 1, at lift 2: four bits, two checks. */
+/* The plan of one row with the shifts 0 and 1, at lift 2: four bits, two checks; and its weights. */
 static const int16_t plan[2] = {0, 1};
+static const uint16_t row_weights[1] = {2}, col_weights[2] = {1, 1};
 static uint64_t out[QCLDPC_OUT];
+
+/* Whether all numbers of a list are one number. */
+static int all(const uint16_t *list, size_t length, uint16_t number)
+{
+    for (size_t k = 0; k < length; k++)
+        if (list[k] != number)
+            return 0;
+    return 1;
+}
 
 static void plans(void)
 {
@@ -84,18 +94,43 @@ static void erasures(void)
     EXPECT(qcldpc_count_erasures(NULL, 0, out, QCLDPC_OUT) == 0 && out[0] == 0);
 }
 
-static void tables(void)
+/* The cyclic table of order 4 and the full mask, in places of some lengths: 48 rows and 64 columns are needed. */
+static int16_t table[16], built[48 * 64];
+static uint16_t built_rows[49], built_cols[65];
+
+static uint64_t build(uint64_t lift, size_t places, size_t rows, size_t cols)
 {
-    static int16_t table[16], built[48 * 64];
     uint8_t mask[16];
     memset(mask, 1, sizeof mask);
+    return qcldpc_build(4, lift, table, 16, mask, 16, built, places, built_rows, rows, built_cols, cols, out, QCLDPC_OUT);
+}
+
+static void tables(void)
+{
     EXPECT(qcldpc_array_table(4, table, 16, out, QCLDPC_OUT) == 0 && table[15] == 9 % 4);
     EXPECT(qcldpc_cyclic_table(4, table, 16, out, QCLDPC_OUT) == 0 && table[3] == 3);
-    EXPECT(qcldpc_build(4, 6, table, 16, mask, 16, built, 48 * 64, out, QCLDPC_OUT) == 10);
+    EXPECT(build(6, 48 * 64, 47, 64) == 10);
     EXPECT(out[0] == 0 && out[1] == 2 && out[2] == 1 && out[3] == 3);
-    EXPECT(qcldpc_build(4, 7, table, 16, mask, 16, built, 48 * 64, out, QCLDPC_OUT) == 0);
+    EXPECT(build(7, 48 * 63, 47, 64) == 15);
+    EXPECT(build(7, 48 * 64, 47, 64) == 25 && build(7, 48 * 64, 49, 64) == 25);
+    EXPECT(build(7, 48 * 64, 48, 63) == 25 && build(7, 48 * 64, 48, 65) == 25);
+    EXPECT(built[0] == 0 && all(built_rows, 49, 0) && all(built_cols, 65, 0));
+    /* what the lists hold is not read */
+    built_rows[5] = built_cols[7] = 9;
+    EXPECT(build(7, 48 * 64, 48, 64) == 0);
     EXPECT(out[0] == 48 && out[1] == 64);
     EXPECT(built[5 * 64 + 23] == 1 && built[23 * 64 + 23] == 0 && built[39 * 64 + 23] == 3);
+    EXPECT(all(built_rows, 48, 4) && all(built_cols, 64, 3) && built_rows[48] == 0 && built_cols[64] == 0);
+}
+
+/* A Steiner triple plan, in places for 7 rows and some columns. */
+static int16_t voltages[21], triple_plan[49];
+static uint16_t triple_rows[7], triple_cols[7];
+
+static uint64_t triples_of(uint64_t order, uint64_t lift, size_t voltages_len, size_t places, size_t cols)
+{
+    return qcldpc_steiner(order, lift, voltages, voltages_len, triple_plan, places, triple_rows, 7, triple_cols, cols,
+                          out, QCLDPC_OUT);
 }
 
 /* The triples of order 7 are 0 1 3, 0 2 6, 0 4 5, 1 2 4, 1 5 6, 2 3 5 and 3 4 6; by 16 the voltages 16 to 20 are 0 to 4. */
@@ -110,41 +145,97 @@ static void triples(void)
         -1, -1, 8, -1, 13, 1, -1,
         -1, 5, -1, -1, 14, -1, 4,
     };
-    int16_t voltages[21], built[49];
     for (int k = 0; k < 21; k++)
         voltages[k] = (int16_t)k;
-    EXPECT(qcldpc_steiner(7, 16, voltages, 21, built, 49, out, QCLDPC_OUT) == 0 && out[0] == 7 && out[1] == 7);
-    EXPECT(memcmp(built, wanted, sizeof wanted) == 0);
-    EXPECT(qcldpc_girth(built, 49, 7, 7, 16, 6, out, QCLDPC_OUT) == 0 && out[0] == 0);
-    EXPECT(qcldpc_steiner(7, 4097, voltages, 21, built, 49, out, QCLDPC_OUT) == 3);
-    EXPECT(qcldpc_steiner(19, 1150, voltages, 21, built, 49, out, QCLDPC_OUT) == 4);
-    EXPECT(qcldpc_steiner(8, 1150, voltages, 21, built, 49, out, QCLDPC_OUT) == 22);
-    EXPECT(qcldpc_steiner(9, 16, voltages, 21, built, 49, out, QCLDPC_OUT) == 23);
-    EXPECT(qcldpc_steiner(7, 16, voltages, 20, built, 49, out, QCLDPC_OUT) == 23);
-    EXPECT(qcldpc_steiner(7, 16, voltages, 21, built, 48, out, QCLDPC_OUT) == 23);
+    EXPECT(triples_of(7, 16, 21, 49, 7) == 0 && out[0] == 7 && out[1] == 7);
+    EXPECT(memcmp(triple_plan, wanted, sizeof wanted) == 0 && all(triple_rows, 7, 3) && all(triple_cols, 7, 3));
+    EXPECT(qcldpc_girth(triple_plan, 49, 7, 7, 16, 6, out, QCLDPC_OUT) == 0 && out[0] == 0);
+    EXPECT(triples_of(7, 4097, 21, 49, 7) == 3);
+    EXPECT(triples_of(19, 1150, 21, 49, 7) == 4);
+    EXPECT(triples_of(8, 1150, 21, 49, 6) == 22);
+    EXPECT(triples_of(9, 16, 21, 49, 7) == 23);
+    EXPECT(triples_of(7, 16, 20, 49, 7) == 23);
+    EXPECT(triples_of(7, 16, 21, 48, 6) == 23);
+    EXPECT(triples_of(7, 15, 21, 49, 6) == 25);
     voltages[5] = voltages[20] = -1;
-    EXPECT(qcldpc_steiner(8, 16, voltages, 21, built, 48, out, QCLDPC_OUT) == 6 && out[0] == 5);
-    EXPECT(memcmp(built, wanted, sizeof wanted) == 0);
+    EXPECT(triples_of(8, 16, 21, 48, 7) == 6 && out[0] == 5);
+    EXPECT(memcmp(triple_plan, wanted, sizeof wanted) == 0 && all(triple_rows, 7, 3) && all(triple_cols, 7, 3));
+}
+
+/* The plan 0 0 / 0 1 at lift 4, whose last block is changed, and its weights. */
+static int16_t changing[4] = {0, 0, 0, 1};
+static uint16_t changing_rows[2] = {2, 2}, changing_cols[2] = {2, 2};
+
+static uint64_t change_in(size_t rows, size_t cols, uint64_t row, uint64_t col, int16_t entry)
+{
+    return qcldpc_change(changing, 4, 2, 2, 4, row, col, entry, changing_rows, rows, changing_cols, cols, out, QCLDPC_OUT);
+}
+
+static uint64_t change(uint64_t row, uint64_t col, int16_t entry)
+{
+    return change_in(2, 2, row, col, entry);
+}
+
+/* Whether the last entry and the last weights are these, and the others as at first. */
+static int last_are(int16_t entry, uint16_t row_weight, uint16_t col_weight)
+{
+    return changing[0] == 0 && changing[1] == 0 && changing[2] == 0 && changing[3] == entry
+        && changing_rows[0] == 2 && changing_rows[1] == row_weight && changing_cols[0] == 2 && changing_cols[1] == col_weight;
+}
+
+static void changes(void)
+{
+    out[0] = 5;
+    EXPECT(change(1, 1, 6) == 0 && last_are(6, 2, 2) && out[0] == 5);
+    EXPECT(qcldpc_girth(changing, 4, 2, 2, 4, 18, out, QCLDPC_OUT) == 0 && 2 * out[0] == 8);
+    EXPECT(change(1, 1, -1) == 0 && last_are(-1, 1, 1));
+    EXPECT(qcldpc_girth(changing, 4, 2, 2, 4, 18, out, QCLDPC_OUT) == 0 && out[0] == 0);
+    EXPECT(change(1, 1, 32767) == 0 && last_are(32767, 2, 2));
+    EXPECT(change(0, 0, -2) == 6 && out[0] == 4);
+    EXPECT(change(2, 0, 1) == 24 && change(0, 2, 1) == 24 && change(UINT64_MAX, UINT64_MAX, 1) == 24);
+    EXPECT(change_in(1, 2, 0, 0, 1) == 25 && change_in(2, 1, 0, 0, 1) == 25);
+    changing_cols[1] = 3;
+    EXPECT(change(0, 0, 1) == 25 && change(0, 2, 1) == 24 && change(0, 2, -2) == 6);
+    EXPECT(last_are(32767, 2, 3));
+    changing[3] = -2;
+    EXPECT(change(2, 0, -3) == 6 && out[0] == 3);
+}
+
+/* The plan's alist, in a place of 64 bytes; with its first so many row and column weights. */
+static uint8_t text[64];
+
+static uint64_t write_text(size_t rows, size_t cols, size_t length)
+{
+    return qcldpc_alist_write(plan, 2, 1, 2, 2, row_weights, rows, col_weights, cols, text, length, out, QCLDPC_OUT);
+}
+
+static uint64_t compare_text(size_t rows, size_t cols, size_t length)
+{
+    return qcldpc_alist_compare(plan, 2, 1, 2, 2, row_weights, rows, col_weights, cols, text, length, out, QCLDPC_OUT);
 }
 
 static void texts(void)
 {
     static const char alist[] = "4 2\n1 2\n1 1 1 1\n2 2\n1\n2\n2\n1\n1 4\n2 3\n";
     const size_t length = sizeof alist - 1;
-    uint8_t text[64];
     memset(text, 'x', sizeof text);
-    EXPECT(qcldpc_alist_write(plan, 2, 1, 2, 2, NULL, 0, out, QCLDPC_OUT) == 17 && out[0] == length);
-    EXPECT(qcldpc_alist_write(plan, 2, 1, 2, 2, text, sizeof text, out, QCLDPC_OUT) == 0 && out[0] == length);
+    EXPECT(write_text(1, 2, 0) == 17 && out[0] == length);
+    EXPECT(write_text(0, 2, length - 1) == 17 && out[0] == length);
+    EXPECT(write_text(0, 2, sizeof text) == 25 && write_text(1, 1, sizeof text) == 25 && text[0] == 'x');
+    EXPECT(write_text(1, 2, sizeof text) == 0 && out[0] == length);
     EXPECT(memcmp(text, alist, length) == 0 && text[length] == 'x');
-    EXPECT(qcldpc_alist_compare(plan, 2, 1, 2, 2, text, length, out, QCLDPC_OUT) == 0);
-    EXPECT(qcldpc_alist_compare(plan, 2, 1, 2, 2, text, length + 1, out, QCLDPC_OUT) == 21 && out[0] == length);
+    EXPECT(compare_text(1, 2, length) == 0);
+    EXPECT(compare_text(1, 2, length + 1) == 21 && out[0] == length);
+    EXPECT(compare_text(0, 2, length + 1) == 21 && out[0] == length);
+    EXPECT(compare_text(0, 2, length) == 25 && compare_text(1, 1, length) == 25);
 }
 
 /* Compares a text with the plan of one row with the shift 0 and a zero block, at lift 1: the second bit has no check. */
-static uint64_t compare_short(const char *text, size_t length)
+static uint64_t compare_short(const char *short_text, size_t length)
 {
     const int16_t irregular[2] = {0, -1};
-    return qcldpc_alist_compare(irregular, 2, 1, 2, 1, (const uint8_t *)text, length, out, QCLDPC_OUT);
+    const uint16_t rows[1] = {1}, cols[2] = {1, 0};
+    return qcldpc_alist_compare(irregular, 2, 1, 2, 1, rows, 1, cols, 2, (const uint8_t *)short_text, length, out, QCLDPC_OUT);
 }
 
 static void unpadded_texts(void)
@@ -180,10 +271,11 @@ int main(void)
     erasures();
     tables();
     triples();
+    changes();
     texts();
     unpadded_texts();
     too_small_an_out();
     if (!wrong)
-        puts("c: 12 functions answer");
+        puts("c: 13 functions answer");
     return wrong;
 }

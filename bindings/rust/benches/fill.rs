@@ -6,7 +6,7 @@
 mod common;
 
 use common::{cyclic_plan, judge, printed, shift, timed, OwnedPlan, Sequence};
-use qcldpc::Fill;
+use qcldpc::{Fill, Plan};
 use std::hint::black_box;
 use std::time::Duration;
 
@@ -19,14 +19,14 @@ struct Lists {
 }
 
 fn lists(plan: &OwnedPlan) -> Lists {
-    let (entries, rows, cols) = (&plan.entries, plan.rows, plan.cols);
+    let Plan { entries, rows, cols, lift } = plan.lent();
     let (mut row_items, mut row_ends) = (Vec::new(), Vec::new());
     let mut col_counts = vec![0usize; cols + 1];
     for i in 0..rows {
         for j in 0..cols {
             let e = entries[i * cols + j];
             if e >= 0 {
-                row_items.push((j, shift(e, plan.lift)));
+                row_items.push((j, shift(e, lift)));
                 col_counts[j + 1] += 1;
             }
         }
@@ -48,13 +48,13 @@ fn lists(plan: &OwnedPlan) -> Lists {
 
 // The reference that does the same work for each word as the call: judges the plan, builds the lists, decodes.
 fn same_work(plan: &OwnedPlan, word: &mut [u8]) -> Result<Fill, u64> {
-    judge(plan)?;
+    judge(&plan.lent())?;
     decode(&lists(plan), plan, word)
 }
 
 // The worklist decoder: a count of erasures and a parity for each check, and a list of checks with one erasure.
 fn decode(lists: &Lists, plan: &OwnedPlan, word: &mut [u8]) -> Result<Fill, u64> {
-    let (rows, cols, lift) = (plan.rows, plan.cols, plan.lift);
+    let Plan { rows, cols, lift, .. } = plan.lent();
     let Lists { row_items, row_ends, col_items, col_counts } = lists;
     if word.len() != cols * lift {
         return Err(16);
@@ -164,7 +164,7 @@ fn beside(name: &str, plan: &OwnedPlan, words: &[Vec<u8>]) {
 
 fn main() {
     let mask: Vec<u8> = (0..49).map(|k| (k / 7 != k % 7) as u8).collect();
-    let plan = cyclic_plan(7, 7, &mask, 6);
+    let plan = cyclic_plan(7, 7, &mask);
     let mut sequence = Sequence(1);
     for n in [13, 400] {
         let words: Vec<Vec<u8>> = (0..200).map(|_| damaged(plan.bits(), n, &mut sequence)).collect();

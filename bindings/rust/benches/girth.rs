@@ -4,8 +4,8 @@
 //! and girth 12, at 12, 14 and 18. Each takes the plan as numbers and builds its own lists of it.
 mod common;
 
-use common::{cyclic_plan, printed, shift, OwnedPlan, Sequence};
-use qcldpc::Girth;
+use common::{cyclic_plan, plan_of, printed, shift, OwnedPlan, Sequence};
+use qcldpc::{Girth, Plan};
 use std::hint::black_box;
 use std::time::Instant;
 
@@ -27,14 +27,13 @@ fn proved(plan: &OwnedPlan, target: usize) -> Girth {
 }
 
 fn halfway(plan: &OwnedPlan, target: usize) -> Girth {
-    common::judge(plan).expect("a plan that is not refused");
+    common::judge(&plan.lent()).expect("a plan that is not refused");
     assert!(target <= 18);
-    let OwnedPlan { entries, rows, cols, lift } = plan;
+    let Plan { entries, rows, cols, lift } = plan.lent();
     let (mut checks, mut bits) = ([0; 8], [0; 8]);
     // SAFETY: the plan is valid, and a shown cycle has at most 8 checks and bits. No other thread calls the function.
-    let n = unsafe {
-        plain_halfway(entries.as_ptr(), *rows, *cols, *lift, target, checks.as_mut_ptr(), bits.as_mut_ptr()) as usize
-    };
+    let n =
+        unsafe { plain_halfway(entries.as_ptr(), rows, cols, lift, target, checks.as_mut_ptr(), bits.as_mut_ptr()) as usize };
     answer(checks[..n].to_vec(), bits[..n].to_vec())
 }
 
@@ -53,18 +52,19 @@ struct Sparse {
 }
 
 fn sparse(plan: &OwnedPlan) -> Sparse {
-    let mut by_row = vec![vec![]; plan.rows];
-    let mut by_col = vec![vec![]; plan.cols];
-    for (i, row) in plan.entries.chunks_exact(plan.cols).enumerate() {
+    let Plan { entries, rows, cols, lift } = plan.lent();
+    let mut by_row = vec![vec![]; rows];
+    let mut by_col = vec![vec![]; cols];
+    for (i, row) in entries.chunks_exact(cols).enumerate() {
         for (j, &e) in row.iter().enumerate() {
             if e >= 0 {
-                let e = shift(e, plan.lift);
+                let e = shift(e, lift);
                 by_row[i].push((j, e));
                 by_col[j].push((i, e));
             }
         }
     }
-    Sparse { by_row, by_col, lift: plan.lift }
+    Sparse { by_row, by_col, lift }
 }
 
 type Path = Vec<(usize, usize)>;
@@ -109,7 +109,7 @@ fn at_check(g: &Sparse, start: usize, depth: usize, row: usize, from: usize, v: 
 fn closed_walks(plan: &OwnedPlan, target: usize) -> Girth {
     let g = sparse(plan);
     for n in 2..target / 2 {
-        for start in 0..plan.cols {
+        for start in 0..plan.cols() {
             let mut path = vec![];
             if at_bit(&g, start, n - 1, start, usize::MAX, 0, &mut path) {
                 let (checks, bits) = path.into_iter().rev().unzip();
@@ -121,9 +121,10 @@ fn closed_walks(plan: &OwnedPlan, target: usize) -> Girth {
 }
 
 fn joins(plan: &OwnedPlan, check: usize, bit: usize) -> bool {
-    let (i, y, j, z) = (check / plan.lift, check % plan.lift, bit / plan.lift, bit % plan.lift);
-    let e = plan.entries[i * plan.cols + j];
-    e >= 0 && (y + e as usize) % plan.lift == z
+    let Plan { entries, cols, lift, .. } = plan.lent();
+    let (i, y, j, z) = (check / lift, check % lift, bit / lift, bit % lift);
+    let e = entries[i * cols + j];
+    e >= 0 && (y + e as usize) % lift == z
 }
 
 // Whether checks and bits are those of a simple cycle of the plan.
@@ -176,7 +177,7 @@ fn medians(plan: &OwnedPlan, target: usize, searches: &[Search]) -> Vec<f64> {
 // Prints the median of each search, and how many times as long the first takes as each other; gives the first's, in seconds.
 fn beside(name: &str, plan: &OwnedPlan, target: usize, searches: &[Search]) -> f64 {
     let girth = agreed(plan, target, searches).map_or(format!("{target} or more"), |girth| girth.to_string());
-    println!("{name}: {} x {}, lift {}, girth {girth}", plan.rows, plan.cols, plan.lift);
+    println!("{name}: {} x {}, lift {}, girth {girth}", plan.rows(), plan.cols(), plan.lift());
     let times = medians(plan, target, searches);
     println!("  {} {:.3} ms", searches[0].0, times[0] * 1e3);
     for ((name, _), time) in searches.iter().zip(&times).skip(1) {
@@ -201,7 +202,7 @@ fn grid() -> OwnedPlan {
     for i in 0..190 {
         entries[i * cols + 384 + i % 128] = 0;
     }
-    OwnedPlan { entries, rows, cols, lift }
+    plan_of(entries, rows, cols, lift)
 }
 
 // 128 rows of one block, in column 0; 63 rows with a block there and in two columns of their own, which the last row has at the
@@ -221,7 +222,7 @@ fn hubs() -> OwnedPlan {
         entries[191 * cols + 2 * r] = (lift - r) as i16;
     }
     entries[191 * cols + 127..].fill(0);
-    OwnedPlan { entries, rows, cols, lift }
+    plan_of(entries, rows, cols, lift)
 }
 
 // 32 rows of one block; in the other 160 every block (i, j) is filled, with the shift i j mod 257, so that two of these rows share
@@ -232,21 +233,22 @@ fn plane() -> OwnedPlan {
         (i, j) if i < 32 => [-1, 0][(j == i * 7) as usize],
         (i, j) => ((i - 32) * j % lift) as i16,
     };
-    OwnedPlan { entries: (0..rows * cols).map(block).collect(), rows, cols, lift }
+    plan_of((0..rows * cols).map(block).collect(), rows, cols, lift)
 }
 
 // A table plan with its last filled block changed, so that it may fail.
 fn changed(plan: &OwnedPlan, by: i16) -> OwnedPlan {
     let mut plan = plan.clone();
-    let last = plan.entries.iter_mut().rfind(|e| **e >= 0).expect("a filled block");
-    *last += by;
+    let last = plan.entries().iter().rposition(|&e| e >= 0).expect("a filled block");
+    let entry = plan.entries()[last] + by;
+    plan.change(last / plan.cols(), last % plan.cols(), entry).expect("a block of the plan");
     plan
 }
 
 // The plan of the first columns of a Steiner plan.
 fn first_columns(plan: &OwnedPlan, cols: usize) -> OwnedPlan {
-    let entries = plan.entries.chunks_exact(plan.cols).flat_map(|row| &row[..cols]).copied().collect();
-    OwnedPlan { entries, cols, ..*plan }
+    let entries = plan.entries().chunks_exact(plan.cols()).flat_map(|row| &row[..cols]).copied().collect();
+    plan_of(entries, plan.rows(), cols, plan.lift())
 }
 
 // A Steiner plan of order 19 that passes at 12: voltages are drawn column by column, those of a column until the columns so far
@@ -266,7 +268,7 @@ fn steiner() -> OwnedPlan {
 
 // Table plans, at 12.
 fn tables() {
-    let (seven, six) = (cyclic_plan(7, 28, &[1; 49], 7), cyclic_plan(6, 19, &[1; 36], 6));
+    let (seven, six) = (cyclic_plan(7, 28, &[1; 49]), cyclic_plan(6, 19, &[1; 36]));
     let all = [PROVED, CLOSED_WALKS, HALFWAY];
     let girths: Vec<_> = (0..19).map(|by| agreed(&changed(&six, by), 12, &all)).collect();
     assert!(girths.contains(&None) && girths.contains(&Some(8)), "some of these plans pass and some fail");

@@ -23,9 +23,14 @@
 //! let mut dirty = [1, 1, 1, 0, 0, 0, 1, 1, 7];
 //! assert_eq!(fill(&plan, &mut dirty), Err(Refusal { number: 18, values: vec![8] }));
 //! ```
+//!
+//! Beside a plan lie its weights, two lists: how many filled blocks each row has, and how many each column has. The calls that
+//! build a plan fill them, [`change`] keeps them true, and the calls for alist text read them. An [`OwnedPlan`] has its own.
 
+mod owned;
 pub mod raw;
 
+pub use owned::OwnedPlan;
 use std::fmt;
 
 /// An exponent matrix: `rows × cols` entries, row by row. −1 is a zero block, `e` from 0 to 32,767 the identity with its rows
@@ -37,9 +42,10 @@ use std::fmt;
 ///
 /// let printed = Plan { entries: &[0, 3, -1, 12, 4, 32767], rows: 2, cols: 3, lift: 3 };
 /// let reduced = Plan { entries: &[0, 0, -1, 0, 1, 1], rows: 2, cols: 3, lift: 3 };
+/// let (row_weights, col_weights) = ([2, 3], [2, 2, 1]);
 /// let mut text = [0; 200];
-/// let length = alist_write(&printed, &mut text).unwrap();
-/// assert_eq!(alist_compare(&reduced, &text[..length]), Ok(()));
+/// let length = alist_write(&printed, &row_weights, &col_weights, &mut text).unwrap();
+/// assert_eq!(alist_compare(&reduced, &row_weights, &col_weights, &text[..length]), Ok(()));
 /// ```
 #[derive(Clone, Copy, Debug, PartialEq, Eq)]
 pub struct Plan<'a> {
@@ -56,52 +62,7 @@ impl Plan<'_> {
     }
 }
 
-/// A plan that owns its entries.
-#[derive(Clone, Debug, PartialEq, Eq)]
-pub struct OwnedPlan {
-    pub entries: Vec<i16>,
-    pub rows: usize,
-    pub cols: usize,
-    pub lift: usize,
-}
-
-impl OwnedPlan {
-    /// The plan of an order (7, 9, 13, 15 or 19), a lift and voltages, as [`steiner`] builds it, in a place of its own; so 23
-    /// is about the voltages alone. Refusals 3, 4, 6 with the first place of a voltage below 0, 22, 23.
-    ///
-    /// The triples of order 7 are 0 1 3, 0 2 6, 0 4 5, 1 2 4, 1 5 6, 2 3 5 and 3 4 6, so point 0 has blocks in three columns,
-    /// with the voltages 0, 3 and 6:
-    ///
-    /// ```
-    /// use qcldpc::{girth, Girth, OwnedPlan, Refusal};
-    ///
-    /// let voltages: Vec<i16> = (0..21).collect();
-    /// let plan = OwnedPlan::steiner(7, 5, &voltages)?;
-    /// assert_eq!((plan.rows, plan.cols, plan.bits()), (7, 7, 35));
-    /// assert_eq!(plan.entries[..7], [0, 3, 1, -1, -1, -1, -1]);
-    /// assert_eq!(girth(&plan.lent(), 6), Ok(Girth::Passed));
-    /// assert_eq!(OwnedPlan::steiner(8, 5, &voltages), Err(Refusal { number: 22, values: vec![] }));
-    /// # Ok::<(), Refusal>(())
-    /// ```
-    pub fn steiner(order: usize, lift: usize, voltages: &[i16]) -> Result<OwnedPlan, Refusal> {
-        let places = if [7, 9, 13, 15, 19].contains(&order) { order * (order * (order - 1) / 6) } else { 0 };
-        let mut entries = vec![0; places];
-        let Built { rows, cols } = steiner(order, lift, voltages, &mut entries)?;
-        Ok(OwnedPlan { entries, rows, cols, lift })
-    }
-
-    /// The plan, lent to a call.
-    pub fn lent(&self) -> Plan<'_> {
-        Plan { entries: &self.entries, rows: self.rows, cols: self.cols, lift: self.lift }
-    }
-
-    /// How many bits a word of the plan has.
-    pub fn bits(&self) -> usize {
-        self.cols * self.lift
-    }
-}
-
-/// Why a call gives no result: a number from 1 to 23 (README.md, "Refusals") and its values.
+/// Why a call gives no result: a number from 1 to 25 (README.md, "Refusals") and its values.
 #[derive(Clone, Debug, PartialEq, Eq)]
 pub struct Refusal {
     pub number: u64,
@@ -246,23 +207,33 @@ pub fn cyclic_table(order: usize, table: &mut [i16]) -> Result<(), Refusal> {
     call(|out, len| unsafe { raw::qcldpc_cyclic_table(order as u64, table.as_mut_ptr(), table.len(), out, len) }, |_| ())
 }
 
-/// The plan of a table and a mask with `L` ones in each row and column, in exactly `3·L·order × order·L²` places.
-/// Refusals 3, 7 to 13, 15.
+/// The plan of a table and a mask with `L` ones in each row and column, in exactly `3·L·order × order·L²` places, and its
+/// weights, in a place for each row and each column; what stood there is not read. [`OwnedPlan::build`] makes the places itself.
+/// Refusals 3, 7 to 13, 15, 25 where a list of weights has another length.
 ///
 /// ```
 /// let mut table = [0; 16];
 /// qcldpc::cyclic_table(4, &mut table)?;
-/// let mut entries = vec![0; 48 * 64];
-/// let built = qcldpc::build(4, 7, &table, &[1; 16], &mut entries)?;
+/// let (mut entries, mut row_weights, mut col_weights) = (vec![0; 48 * 64], [0; 48], [0; 64]);
+/// let built = qcldpc::build(4, 7, &table, &[1; 16], &mut entries, &mut row_weights, &mut col_weights)?;
 /// assert_eq!((built.rows, built.cols), (48, 64));
+/// assert_eq!((row_weights, col_weights), ([4; 48], [3; 64]));
 /// # Ok::<(), qcldpc::Refusal>(())
 /// ```
-pub fn build(order: usize, lift: usize, table: &[i16], mask: &[u8], plan: &mut [i16]) -> Result<Built, Refusal> {
-    let (t, m) = (table, mask);
+pub fn build(
+    order: usize,
+    lift: usize,
+    table: &[i16],
+    mask: &[u8],
+    plan: &mut [i16],
+    row_weights: &mut [u16],
+    col_weights: &mut [u16],
+) -> Result<Built, Refusal> {
+    let (order, lift, t, m) = (order as u64, lift as u64, table, mask);
+    let ((p, n), (r, rn), (c, cn)) = (place(plan), place(row_weights), place(col_weights));
     call(
         |out, len| unsafe {
-            let (to, places) = (plan.as_mut_ptr(), plan.len());
-            raw::qcldpc_build(order as u64, lift as u64, t.as_ptr(), t.len(), m.as_ptr(), m.len(), to, places, out, len)
+            raw::qcldpc_build(order, lift, t.as_ptr(), t.len(), m.as_ptr(), m.len(), p, n, r, rn, c, cn, out, len)
         },
         sizes,
     )
@@ -271,35 +242,93 @@ pub fn build(order: usize, lift: usize, table: &[i16], mask: &[u8], plan: &mut [
 /// The plan of the supplied Steiner triple system of an order `v`: 7, 9, 13, 15 or 19. Rows are its points from 0, columns its
 /// `v·(v − 1)/6` triples, rising by first, second and third point. There is one voltage for each point of each triple, points
 /// rising within a triple; an entry is its voltage's remainder by the lift, or −1 where the point is not in the triple. The
-/// place has exactly `order × columns` numbers. [`OwnedPlan::steiner`] makes it itself.
+/// place has exactly `order × columns` numbers, and those of its weights one for each row and each column; what stood there is
+/// not read. [`OwnedPlan::steiner`] makes the places itself.
 ///
 /// Two points have one triple in common, so the plan passes at 6 whatever the voltages. Refusals 3, 4 (of the five orders), 6
-/// with the first place of a voltage below 0, 22, 23.
+/// with the first place of a voltage below 0, 22, 23, 25 where a list of weights has another length.
 ///
 /// ```
 /// let voltages: Vec<i16> = (0..3 * 57).collect();
-/// let mut entries = vec![0; 19 * 57];
-/// let built = qcldpc::steiner(19, 1149, &voltages, &mut entries)?;
+/// let (mut entries, mut row_weights, mut col_weights) = (vec![0; 19 * 57], [0; 19], [0; 57]);
+/// let built = qcldpc::steiner(19, 1149, &voltages, &mut entries, &mut row_weights, &mut col_weights)?;
 /// assert_eq!((built.rows, built.cols), (19, 57));
+/// assert_eq!((row_weights, col_weights), ([9; 19], [3; 57]));
 /// # Ok::<(), qcldpc::Refusal>(())
 /// ```
-pub fn steiner(order: usize, lift: usize, voltages: &[i16], plan: &mut [i16]) -> Result<Built, Refusal> {
-    let v = voltages;
-    call(
-        |out, len| unsafe {
-            let (to, places) = (plan.as_mut_ptr(), plan.len());
-            raw::qcldpc_steiner(order as u64, lift as u64, v.as_ptr(), v.len(), to, places, out, len)
-        },
-        sizes,
-    )
+pub fn steiner(
+    order: usize,
+    lift: usize,
+    voltages: &[i16],
+    plan: &mut [i16],
+    row_weights: &mut [u16],
+    col_weights: &mut [u16],
+) -> Result<Built, Refusal> {
+    let (order, lift, v) = (order as u64, lift as u64, voltages);
+    let ((p, n), (r, rn), (c, cn)) = (place(plan), place(row_weights), place(col_weights));
+    call(|out, len| unsafe { raw::qcldpc_steiner(order, lift, v.as_ptr(), v.len(), p, n, r, rn, c, cn, out, len) }, sizes)
 }
 
-/// Writes the alist text of a plan, in its padded form, and gives its length; bytes past it stay. Refusals 1 to 6, 17 with the
-/// length needed.
-pub fn alist_write(plan: &Plan, text: &mut [u8]) -> Result<usize, Refusal> {
+/// Changes one block of a plan: the entry at `row` and `col` becomes `entry`, stored as it is given, and the weights stay true.
+/// Nothing but that entry, `row_weights[row]` and `col_weights[col]` moves. [`OwnedPlan::change`] has the lists itself.
+///
+/// Refusals 1 to 5; 6 with the first place of a bad entry of the plan, or else with `rows × cols` where the new entry is below
+/// −1; 24 where the row or the column is outside the plan; 25 where a list of weights has another length, or a count that is
+/// wrong for the plan before the change.
+///
+/// ```
+/// use qcldpc::{change, Refusal};
+///
+/// let mut plan = [0, 0, 0, 0, 1, 2, 0, 2, 1];
+/// let (mut row_weights, mut col_weights) = ([3; 3], [3; 3]);
+/// change(&mut plan, 3, 3, 3, 1, 2, -1, &mut row_weights, &mut col_weights)?;
+/// assert_eq!(plan, [0, 0, 0, 0, 1, -1, 0, 2, 1]);
+/// assert_eq!((row_weights, col_weights), ([3, 2, 3], [3, 3, 2]));
+///
+/// let mut refused = |row, col, entry, row_weights: &mut [u16]| {
+///     change(&mut plan, 3, 3, 3, row, col, entry, row_weights, &mut col_weights).unwrap_err()
+/// };
+/// assert_eq!(refused(0, 0, -2, &mut row_weights), Refusal { number: 6, values: vec![9] });
+/// assert_eq!(refused(0, 3, 5, &mut row_weights), Refusal { number: 24, values: vec![] });
+/// assert_eq!(refused(0, 0, 5, &mut [3; 3]), Refusal { number: 25, values: vec![] });
+/// # Ok::<(), Refusal>(())
+/// ```
+#[allow(clippy::too_many_arguments)] // they are those of the C function
+pub fn change(
+    plan: &mut [i16],
+    rows: usize,
+    cols: usize,
+    lift: usize,
+    row: usize,
+    col: usize,
+    entry: i16,
+    row_weights: &mut [u16],
+    col_weights: &mut [u16],
+) -> Result<(), Refusal> {
+    let (rows, cols, lift, row, col) = (rows as u64, cols as u64, lift as u64, row as u64, col as u64);
+    let ((p, n), (r, rn), (c, cn)) = (place(plan), place(row_weights), place(col_weights));
+    call(|out, len| unsafe { raw::qcldpc_change(p, n, rows, cols, lift, row, col, entry, r, rn, c, cn, out, len) }, |_| ())
+}
+
+/// Writes the alist text of a plan, in its padded form, and gives its length; bytes past it stay. [`OwnedPlan::alist`] makes the
+/// place itself. Refusals 1 to 6; 17 with the length needed, whatever the weights are; 25 where a list of weights has another
+/// length or a wrong count.
+///
+/// ```
+/// use qcldpc::{alist_write, Plan, Refusal};
+///
+/// let plan = Plan { entries: &[0, -1], rows: 1, cols: 2, lift: 1 };
+/// let mut text = [b'x'; 21];
+/// assert_eq!(alist_write(&plan, &[1], &[1, 0], &mut []), Err(Refusal { number: 17, values: vec![20] }));
+/// assert_eq!(alist_write(&plan, &[1], &[1, 1], &mut text), Err(Refusal { number: 25, values: vec![] }));
+/// assert_eq!(alist_write(&plan, &[1], &[1, 0], &mut text), Ok(20));
+/// assert_eq!(&text, b"2 1\n1 1\n1 0\n1\n1\n0\n1\nx");
+/// ```
+pub fn alist_write(plan: &Plan, row_weights: &[u16], col_weights: &[u16], text: &mut [u8]) -> Result<usize, Refusal> {
     let (p, n, rows, cols, lift) = plan.lent();
+    let ((r, rn), (c, cn), (t, tn)) = (lent(row_weights), lent(col_weights), place(text));
     call(
-        |out, len| unsafe { raw::qcldpc_alist_write(p, n, rows, cols, lift, text.as_mut_ptr(), text.len(), out, len) },
+        |out, len| unsafe { raw::qcldpc_alist_write(p, n, rows, cols, lift, r, rn, c, cn, t, tn, out, len) },
         |out| out[0] as usize,
     )
 }
@@ -308,8 +337,9 @@ pub fn alist_write(plan: &Plan, text: &mut [u8]) -> Result<usize, Refusal> {
 /// padded, where short lists are filled up with 0 and line feeds are blanks like space, tab and carriage return; or unpadded,
 /// where every short list ends with its line and each line feed is a token, those of blank lines and the last one included.
 ///
-/// Refusals 1 to 6, 21. Where a text agrees with neither form, 21 shows the later of the two places at which it first departs
-/// from them: the first byte of a wrong or extra token, or the text's length where it ends early.
+/// Refusals 1 to 6, 21, 25 where a list of weights has another length or a wrong count. Where a text agrees with neither form,
+/// 21 shows the later of the two places at which it first departs from them: the first byte of a wrong or extra token, or the
+/// text's length where it ends early.
 ///
 /// The plan here has one row, with a filled and a zero block, so the second of its two bits has no check:
 ///
@@ -317,15 +347,27 @@ pub fn alist_write(plan: &Plan, text: &mut [u8]) -> Result<usize, Refusal> {
 /// use qcldpc::{alist_compare, Plan, Refusal};
 ///
 /// let plan = Plan { entries: &[0, -1], rows: 1, cols: 2, lift: 1 };
-/// assert_eq!(alist_compare(&plan, b"2 1\n1 1\n1 0\n1\n1\n0\n1\n"), Ok(()));
-/// assert_eq!(alist_compare(&plan, b"2 1\n1 1\n1 0\n1\n1\n\n1\n"), Ok(()));
+/// let compare = |text: &[u8]| alist_compare(&plan, &[1], &[1, 0], text);
+/// assert_eq!(compare(b"2 1\n1 1\n1 0\n1\n1\n0\n1\n"), Ok(()));
+/// assert_eq!(compare(b"2 1\n1 1\n1 0\n1\n1\n\n1\n"), Ok(()));
 ///
 /// let no_last_line_feed = b"2 1\n1 1\n1 0\n1\n1\n\n1";
-/// assert_eq!(alist_compare(&plan, no_last_line_feed), Err(Refusal { number: 21, values: vec![18] }));
+/// assert_eq!(compare(no_last_line_feed), Err(Refusal { number: 21, values: vec![18] }));
 /// ```
-pub fn alist_compare(plan: &Plan, text: &[u8]) -> Result<(), Refusal> {
+pub fn alist_compare(plan: &Plan, row_weights: &[u16], col_weights: &[u16], text: &[u8]) -> Result<(), Refusal> {
     let (p, n, rows, cols, lift) = plan.lent();
-    call(|out, len| unsafe { raw::qcldpc_alist_compare(p, n, rows, cols, lift, text.as_ptr(), text.len(), out, len) }, |_| ())
+    let ((r, rn), (c, cn), (t, tn)) = (lent(row_weights), lent(col_weights), lent(text));
+    call(|out, len| unsafe { raw::qcldpc_alist_compare(p, n, rows, cols, lift, r, rn, c, cn, t, tn, out, len) }, |_| ())
+}
+
+// A list as the raw functions take it that only read it.
+fn lent<T>(list: &[T]) -> (*const T, usize) {
+    (list.as_ptr(), list.len())
+}
+
+// A list as the raw functions take it that write it.
+fn place<T>(list: &mut [T]) -> (*mut T, usize) {
+    (list.as_mut_ptr(), list.len())
 }
 
 // Lends a function an `out` of 32 places, and reads its answer or its refusal from it.

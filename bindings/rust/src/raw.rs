@@ -1,4 +1,4 @@
-//! The twelve functions as `include/qcldpc.h` declares them: a slice passes as a pointer, then its length.
+//! The thirteen functions as `include/qcldpc.h` declares them: a slice passes as a pointer, then its length.
 //! Nothing is asked of numbers and bytes; each pointer goes with the length of its memory, and memory that is written
 //! overlaps no other. A call returns within 1 MiB of stack.
 
@@ -81,6 +81,10 @@ extern "C" {
         mask_len: usize,
         plan: *mut i16,
         plan_len: usize,
+        row_weights: *mut u16,
+        row_weights_len: usize,
+        col_weights: *mut u16,
+        col_weights_len: usize,
         out: *mut u64,
         out_len: usize,
     ) -> u64;
@@ -92,6 +96,27 @@ extern "C" {
         voltages_len: usize,
         plan: *mut i16,
         plan_len: usize,
+        row_weights: *mut u16,
+        row_weights_len: usize,
+        col_weights: *mut u16,
+        col_weights_len: usize,
+        out: *mut u64,
+        out_len: usize,
+    ) -> u64;
+
+    pub fn qcldpc_change(
+        plan: *mut i16,
+        plan_len: usize,
+        rows: u64,
+        cols: u64,
+        lift: u64,
+        row: u64,
+        col: u64,
+        entry: i16,
+        row_weights: *mut u16,
+        row_weights_len: usize,
+        col_weights: *mut u16,
+        col_weights_len: usize,
         out: *mut u64,
         out_len: usize,
     ) -> u64;
@@ -102,6 +127,10 @@ extern "C" {
         rows: u64,
         cols: u64,
         lift: u64,
+        row_weights: *const u16,
+        row_weights_len: usize,
+        col_weights: *const u16,
+        col_weights_len: usize,
         text: *mut u8,
         text_len: usize,
         out: *mut u64,
@@ -114,6 +143,10 @@ extern "C" {
         rows: u64,
         cols: u64,
         lift: u64,
+        row_weights: *const u16,
+        row_weights_len: usize,
+        col_weights: *const u16,
+        col_weights_len: usize,
         text: *const u8,
         text_len: usize,
         out: *mut u64,

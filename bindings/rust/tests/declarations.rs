@@ -8,6 +8,7 @@ fn number(rust: &str) -> &str {
     match rust {
         "i16" => "int16_t",
         "u8" => "uint8_t",
+        "u16" => "uint16_t",
         "u64" => "uint64_t",
         "usize" => "size_t",
         other => panic!("{other} is not passed"),
@@ -50,7 +51,7 @@ fn arrow(_: &str, after: &str) -> bool {
 #[test]
 fn header_and_raw_declarations_are_those_of_the_source() {
     let source = functions(&read("crates/qcldpc/src/lib.rt"), arrow, proved);
-    assert_eq!(source.len(), 12);
+    assert_eq!(source.len(), 13);
     assert_eq!(functions(&read("bindings/rust/src/raw.rs"), arrow, raw), source);
     assert_eq!(header_functions(), source);
 }

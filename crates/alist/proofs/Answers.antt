@@ -14,21 +14,22 @@ use Rattle.exponent.specs.declared.Validity.{Validity}
 use Rattle.exponent.specs.declared.Validity.the-variants.{Valid, Refused}
 use Rattle.exponent.specs.Limits.{planRules, validity, WellFormed}
 use Rattle.exponent.proofs.Rules.{accepted, valid-none, refused-some}
-use Rattle.exponent.specs.Tanner.{tanner}
 use Rattle.comparer.specs.declared.Verdict.the-variants.{Same, Differs}
-use Rattle.comparer.specs.Verdict.{departs, verdict}
+use Rattle.comparer.specs.Verdict.{verdict}
 use Rattle.alist.specs.declared.Comparison.the-variants as answer
 use Rattle.alist.specs.declared.Comparison.the-variants.{Agrees}
-use Rattle.alist.specs.Calls.{alistText, roomRules, writeRules, tokenRules, compareRules, comparison}
+use Rattle.weights.specs.Weights.{shapeOf}
+use Rattle.alist.specs.Calls.{placeRules, writeRules, tokenRules, textRules, compareRules, comparison}
 
--- computed, whatever the plan and the text are
-pub write-rise : (plan : List ℤ) (rows cols lift : ℕ) (place : List ℕ) → rising (writeRules plan rows cols lift place) ≡ true
-unfolding writeRules planRules
-write-rise plan rows cols lift place = refl
+-- computed, whatever the plan, the lists and the text are
+module _ (plan : List ℤ) (rows cols lift : ℕ) (byrow bycol : List ℕ) where
+  pub write-rise : (place : List ℕ) → rising (writeRules plan rows cols lift byrow bycol place) ≡ true
+  unfolding writeRules planRules
+  write-rise place = refl
 
-pub compare-rise : (plan : List ℤ) (rows cols lift : ℕ) (text : List ℕ) → rising (compareRules plan rows cols lift text) ≡ true
-unfolding compareRules planRules
-compare-rise plan rows cols lift text = refl
+  pub compare-rise : (text : List ℕ) → rising (compareRules plan rows cols lift byrow bycol text) ≡ true
+  unfolding compareRules planRules
+  compare-rise text = refl
 
 -- by the answer v of `validate`
 module _ (plan : List ℤ) (rows cols lift : ℕ) (v : Validity) (e : v ≡ validity (lowest (planRules plan rows cols lift))) where
@@ -42,21 +43,22 @@ module _ (plan : List ℤ) (rows cols lift : ℕ) (v : Validity) (e : v ≡ vali
     refused-rules : (r : Refusal) → v ≡ Refused r → lowest (planRules plan rows cols lift ++ own) ≡ some r
     refused-rules r h = lowest-refused _ own r (refused-some _ r (sym e ∙ h))
 
-  pub write-valid : v ≡ Valid → (place : List ℕ) → lowest (writeRules plan rows cols lift place) ≡ lowest (roomRules (alistText plan rows cols lift) place)
-  unfolding writeRules
-  write-valid h place = valid-rules (roomRules (alistText plan rows cols lift) place) h
+  module _ (byrow bycol : List ℕ) where
+    pub write-valid : v ≡ Valid → (place : List ℕ) → lowest (writeRules plan rows cols lift byrow bycol place) ≡ lowest (placeRules plan (shapeOf rows cols lift) byrow bycol place)
+    unfolding writeRules
+    write-valid h place = valid-rules (placeRules plan (shapeOf rows cols lift) byrow bycol place) h
 
-  pub write-refused : (r : Refusal) → v ≡ Refused r → (place : List ℕ) → lowest (writeRules plan rows cols lift place) ≡ some r
-  unfolding writeRules
-  write-refused r h place = refused-rules (roomRules (alistText plan rows cols lift) place) r h
+    pub write-refused : (r : Refusal) → v ≡ Refused r → (place : List ℕ) → lowest (writeRules plan rows cols lift byrow bycol place) ≡ some r
+    unfolding writeRules
+    write-refused r h place = refused-rules (placeRules plan (shapeOf rows cols lift) byrow bycol place) r h
 
-  pub compare-valid : v ≡ Valid → (text : List ℕ) → lowest (compareRules plan rows cols lift text) ≡ lowest (tokenRules (departs text (tanner plan rows cols lift)))
-  unfolding compareRules
-  compare-valid h text = valid-rules (tokenRules (departs text (tanner plan rows cols lift))) h
+    pub compare-valid : v ≡ Valid → (text : List ℕ) → lowest (compareRules plan rows cols lift byrow bycol text) ≡ lowest (textRules plan (shapeOf rows cols lift) byrow bycol text)
+    unfolding compareRules
+    compare-valid h text = valid-rules (textRules plan (shapeOf rows cols lift) byrow bycol text) h
 
-  pub compare-refused : (r : Refusal) → v ≡ Refused r → (text : List ℕ) → lowest (compareRules plan rows cols lift text) ≡ some r
-  unfolding compareRules
-  compare-refused r h text = refused-rules (tokenRules (departs text (tanner plan rows cols lift))) r h
+    pub compare-refused : (r : Refusal) → v ≡ Refused r → (text : List ℕ) → lowest (compareRules plan rows cols lift byrow bycol text) ≡ some r
+    unfolding compareRules
+    compare-refused r h text = refused-rules (textRules plan (shapeOf rows cols lift) byrow bycol text) r h
 
 -- the answer of `compare` by that of the comparison
 pub verdict-same : (wrong : Option ℕ) → verdict wrong ≡ Same → Agrees ≡ comparison (lowest (tokenRules wrong))

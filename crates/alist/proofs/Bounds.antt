@@ -19,14 +19,16 @@ use Rattle.exponent.specs.Tanner.{graphOf}
 use Rattle.decimal.specs.Decimal.{decimal}
 use Rattle.decimal.proofs.Digits.{length-small, length-below, length-four}
 use Rattle.lines.specs.declared.Layout.{Layout}
-use Rattle.lines.specs.declared.sides.Side.{Side}
-use Rattle.lines.specs.declared.sides.Side.the-variants.{Bits, Checks}
+use Rattle.weights.specs.declared.Side.{Side}
+use Rattle.weights.specs.declared.Side.the-variants.{Bits, Checks}
 use Rattle.tokens.specs.declared.Form.the-variants.{Padded}
 use Rattle.lines.specs.Alist.{nodes, neighbours, degrees, greatest, fill, lists, linesIn, linesOf}
 use Rattle.lines.specs.Text.{item, lineFrom, textOf}
-use Rattle.lines.specs.Sides.{blocks, nodeCount}
+use Rattle.weights.specs.Weights.{blocks}
+use Rattle.weights.proofs.Weights.{blocks-few, weight-le}
+use Rattle.lines.specs.Sides.{nodeCount}
 use Rattle.lines.specs.Lines.{Measured}
-use Rattle.lines.proofs.Lanes.{small, nodes-of, blocks-few, weight-le, degree-weight}
+use Rattle.lines.proofs.Lanes.{nodes-of, degree-weight}
 use Rattle.lines.proofs.Weights.{most-few}
 use Rattle.alist.specs.Steps.{mostBytes}
 
@@ -115,7 +117,7 @@ module _ (plan : List ℤ) (s : Shape) (w : WellFormed plan (s .rows) (s .cols) 
       by Checks = mul-le-mul {n₂ = 192} {m₂ = 4096} (w .few-rows) (w .small-lift)
 
   few-blocks : (side : Side) → blocks s side ≤ 512
-  few-blocks side = blocks-few s side (small plan s w)
+  few-blocks side = blocks-few s side (w .few-rows) (w .few-cols)
 
   neighbour-low : (side : Side) (x y : ℕ) → Mem y (neighbours (graphOf plan s) side x) → suc y ≤ 786432
   unfolding bitsOf checksOf

@@ -3,5 +3,6 @@ pub mod FirstLine
 pub mod Laid
 pub mod Bounds
 pub mod Answers
+pub mod Lists
 pub mod ReadBack
 pub mod Roundtrip

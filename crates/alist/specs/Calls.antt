@@ -1,4 +1,5 @@
--- The answers of the two calls: refusals 1 to 6 and 17, and 1 to 6 and 21 (document 01, "Turned away").
+-- The answers of the two calls: refusals 1 to 6 and 17, and 1 to 6 and 21 (document 01, "Turned away"), and of both last 25 (document 02,
+-- slip 7): a list of weights is wrong.
 use Prim.Native.Nat.{ℕ}
 use mathlib.Core.List.{List, [], _∷_, _++_}
 use mathlib.Core.Option.{Option, none, some}
@@ -9,8 +10,10 @@ use Rattle.refusal.specs.declared.Refusal.{Refusal}
 use Rattle.refusal.specs.declared.Refusal.the-variants.{TextPlace, Token}
 use Rattle.refusal.specs.Lowest.{Rule, refuse}
 use Rattle.graph.specs.Count.{isSome}
+use Rattle.exponent.specs.declared.Shape.{Shape}
 use Rattle.exponent.specs.Limits.{planRules}
-use Rattle.exponent.specs.Tanner.{tanner}
+use Rattle.exponent.specs.Tanner.{graphOf}
+use Rattle.weights.specs.Weights.{shapeOf, weightRules}
 use Rattle.lines.specs.Alist.{alist}
 use Rattle.lines.specs.Text.{textOf}
 use Rattle.comparer.specs.Verdict.{departs}
@@ -27,8 +30,12 @@ alistText plan rows cols lift = textOf (alist plan rows cols lift)
 abbrev pub roomRules : List ℕ → List ℕ → List Rule
 roomRules text place = refuse (TextPlace (length text)) (ltb (length place) (length text)) ∷ []
 
-unfoldable pub writeRules : List ℤ → ℕ → ℕ → ℕ → List ℕ → List Rule
-writeRules plan rows cols lift place = planRules plan rows cols lift ++ roomRules (alistText plan rows cols lift) place
+-- and 25: what a valid plan is refused for
+abbrev pub placeRules : List ℤ → Shape → List ℕ → List ℕ → List ℕ → List Rule
+placeRules plan s byrow bycol place = roomRules (alistText plan (s .rows) (s .cols) (s .lift)) place ++ weightRules plan s byrow bycol
+
+unfoldable pub writeRules : List ℤ → ℕ → ℕ → ℕ → List ℕ → List ℕ → List ℕ → List Rule
+writeRules plan rows cols lift byrow bycol place = planRules plan rows cols lift ++ placeRules plan (shapeOf rows cols lift) byrow bycol place
 
 -- the answer of `write`: the text's length, or a refusal
 abbrev pub written : ℕ → Option Refusal → Written
@@ -48,8 +55,12 @@ placeOf (some place) = place
 abbrev pub tokenRules : Option ℕ → List Rule
 tokenRules wrong = refuse (Token (placeOf wrong)) (isSome wrong) ∷ []
 
-unfoldable pub compareRules : List ℤ → ℕ → ℕ → ℕ → List ℕ → List Rule
-compareRules plan rows cols lift text = planRules plan rows cols lift ++ tokenRules (departs text (tanner plan rows cols lift))
+-- and 25
+abbrev pub textRules : List ℤ → Shape → List ℕ → List ℕ → List ℕ → List Rule
+textRules plan s byrow bycol text = tokenRules (departs text (graphOf plan s)) ++ weightRules plan s byrow bycol
+
+unfoldable pub compareRules : List ℤ → ℕ → ℕ → ℕ → List ℕ → List ℕ → List ℕ → List Rule
+compareRules plan rows cols lift byrow bycol text = planRules plan rows cols lift ++ textRules plan (shapeOf rows cols lift) byrow bycol text
 
 -- the answer of `compare`
 abbrev pub comparison : Option Refusal → Comparison

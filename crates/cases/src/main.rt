@@ -1,5 +1,6 @@
 // The test program: runs the bench cases of document 01 that are not proved as a table, and the sources' parameters,
 // and writes a line for each answer, to be compared with the stored output.
+mod changes; // changes.rt: one block changed
 mod lowered; // lowered.rt: a matrix with P lowered, so that voltages stand at or above it
 mod say; // say.rt: what is written
 mod source000; // source000.rt: the degree matrices of source 000
@@ -9,6 +10,7 @@ mod source002; // source002.rt: the example of source 002
 mod steiner_plans; // steiner_plans.rt: Steiner triple plans
 mod tables; // tables.rt: table plans, and source 004's examples
 mod text; // text.rt: alist text
+mod weights_of; // weights_of.rt: row and column weights
 
 fn main() {
     tables::order_six();
@@ -29,4 +31,6 @@ fn main() {
     steiner_plans::order_nineteen();
     steiner_plans::turned_away();
     steiner_plans::negative();
+    changes::small();
+    changes::judged_again();
 }

@@ -17,8 +17,8 @@ fn example(lift: usize) {
 
 pub fn example_one() {
     example(2);
-    alist_of(&VOLTAGES, 3, 4, 2);
+    alist_of(&VOLTAGES, 3, 4, 2, &[4, 4, 4], &[3, 3, 3, 3]);
     example(4096);
     example(1);
-    alist_of(&VOLTAGES, 3, 4, 1);
+    alist_of(&VOLTAGES, 3, 4, 1, &[4, 4, 4], &[3, 3, 3, 3]);
 }

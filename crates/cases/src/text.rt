@@ -15,9 +15,9 @@ fn say_first(text: [u8; ROOM], length: usize) {
 }
 
 // Writes the alist of a plan.
-pub fn alist_of(plan: &[i16], rows: usize, cols: usize, lift: usize) {
+pub fn alist_of(plan: &[i16], rows: usize, cols: usize, lift: usize, byrow: &[u16], bycol: &[u16]) {
     let mut text = [0u8; ROOM];
-    let written = alist::write(plan, rows, cols, lift, &mut text);
+    let written = alist::write(plan, rows, cols, lift, byrow, bycol, &mut text);
     match written {
         Written::Written(length) => say_first(text, length),
         Written::Refused(r) => {
@@ -30,20 +30,37 @@ pub fn alist_of(plan: &[i16], rows: usize, cols: usize, lift: usize) {
 // Bytes enough for the text of source 004's example 2.
 const LARGE: usize = 65536;
 
-// Writes the alist of a plan, and says whether it is that of another one.
-pub fn same_text(plan: &[i16], other: &[i16], rows: usize, cols: usize, lift: usize) {
+// Writes the alist of a plan, and says whether it is that of another one with the same weights.
+pub fn same_text(
+    plan: &[i16],
+    other: &[i16],
+    rows: usize,
+    cols: usize,
+    lift: usize,
+    byrow: &[u16],
+    bycol: &[u16],
+) {
     let mut text = [0u8; LARGE];
-    let written = alist::write(plan, rows, cols, lift, &mut text);
+    let written = alist::write(plan, rows, cols, lift, byrow, bycol, &mut text);
     match written {
-        Written::Written(length) => agreeing(other, rows, cols, lift, &text, length),
+        Written::Written(length) => agreeing(other, rows, cols, lift, byrow, bycol, &text, length),
         Written::Refused(r) => refused(r),
     }
 }
 
 // Compares the first bytes of a text with the alist of a plan.
-fn agreeing(plan: &[i16], rows: usize, cols: usize, lift: usize, text: &[u8], length: usize) {
+fn agreeing(
+    plan: &[i16],
+    rows: usize,
+    cols: usize,
+    lift: usize,
+    byrow: &[u16],
+    bycol: &[u16],
+    text: &[u8],
+    length: usize,
+) {
     if length <= text.len() {
-        let compared = alist::compare(plan, rows, cols, lift, &text[0..length]);
+        let compared = alist::compare(plan, rows, cols, lift, byrow, bycol, &text[0..length]);
         match compared {
             Comparison::Agrees => say(b"the same text"),
             Comparison::Refused(r) => refused(r),
@@ -54,5 +71,5 @@ fn agreeing(plan: &[i16], rows: usize, cols: usize, lift: usize, text: &[u8], le
 // The one-row plan 0 1 of the bench cases.
 pub fn one_row() {
     say(b"alist of 0 1, P = 2:\n");
-    alist_of(&[0, 1], 1, 2, 2);
+    alist_of(&[0, 1], 1, 2, 2, &[2], &[1, 1]);
 }

@@ -20,7 +20,7 @@ use Rattle.tokens.specs.declared.Step.the-variants.{Next, Wrong}
 use Rattle.tokens.specs.Tokens.{Item, numeral, ending, start, mismatch}
 use Rattle.tokens.specs.Steps.{readLine, atStart, expectAfter, readAfter, mismatchAfter}
 use Rattle.tokens.proofs.Reading.{step-mismatch, read-append, line-append, after-item, past-number}
-use Rattle.lines.specs.declared.sides.Side.the-variants.{Bits, Checks}
+use Rattle.weights.specs.declared.Side.the-variants.{Bits, Checks}
 use Rattle.lines.specs.declared.Line.the-variants.{Sizes}
 use Rattle.lines.specs.Alist.{degrees, greatest, linesIn}
 use Rattle.lines.specs.Sides.{nodeCount}

@@ -1,21 +1,33 @@
 -- Slip 4: plans with the same empty blocks and equal remainders have the same refusals 1 to 6 and the same Tanner graph. Assumes nothing.
 use Prim.Native.Nat.{ℕ, zero, suc, _+_, _*_, _/_, _%_}
 use mathlib.Core.Path.{_≡_, refl, ap}
-use mathlib.Core.List.{List}
+use mathlib.Core.List.{List, _++_}
 use lib.IntN.{ℤ}
 use lib.ListN.{length}
+use Rattle.graph.specs.Count.{below, count}
 use Rattle.refusal.specs.Place.{firstPlace}
 use Rattle.exponent.specs.declared.block.Block.the-variants.{Shift}
-use Rattle.exponent.specs.Plan.{invalidEntry, entryAt, blockAt}
+use Rattle.exponent.specs.Plan.{invalidEntry, entryAt, blockAt, filled as isFilled}
 use Rattle.exponent.specs.Limits.{planRules}
-use Rattle.exponent.specs.Tanner.{edge, tanner}
+use Rattle.exponent.specs.Tanner.{edge, tanner, columnWeight, rowWeight}
 use Rattle.exponent.specs.Remainders.{SameRemainders, none, empty, filled}
 
 module _ (lift : ℕ) where
-  same-length : {p q : List ℤ} → SameRemainders lift p q → length p ≡ length q
+  pub same-length : {p q : List ℤ} → SameRemainders lift p q → length p ≡ length q
   same-length none = refl
   same-length (empty s) = ap suc (same-length s)
   same-length (filled e f h s) = ap suc (same-length s)
+
+  pub same-length-then : {p q : List ℤ} → SameRemainders lift p q → (l : List ℤ) → length (p ++ l) ≡ length (q ++ l)
+  same-length-then none l = refl
+  same-length-then (empty s) l = ap suc (same-length-then s l)
+  same-length-then (filled e f h s) l = ap suc (same-length-then s l)
+
+  pub same-first-then : {p q : List ℤ} → SameRemainders lift p q → (l : List ℤ) → firstPlace (invalidEntry lift) (p ++ l) ≡ firstPlace (invalidEntry lift) (q ++ l)
+  unfolding firstPlace
+  same-first-then none l = refl
+  same-first-then (empty s) l = ap suc (same-first-then s l)
+  same-first-then (filled e f h s) l = ap suc (same-first-then s l)
 
   same-first : {p q : List ℤ} → SameRemainders lift p q → firstPlace (invalidEntry lift) p ≡ firstPlace (invalidEntry lift) q
   unfolding firstPlace
@@ -36,6 +48,13 @@ module _ (lift : ℕ) where
     pub same-rules : planRules p rows cols lift ≡ planRules q rows cols lift
     unfolding planRules
     same-rules = rw (same-length same, same-first same)
+
+    pub same-weights : ((j : ℕ) → columnWeight p rows cols lift j ≡ columnWeight q rows cols lift j) × ((i : ℕ) → rowWeight p cols lift i ≡ rowWeight q cols lift i)
+    unfolding columnWeight rowWeight blockAt
+    same-weights = (
+      λ j k. count (λ i. isFilled (same-entry same (i * cols + j) k)) (below rows),
+      λ i k. count (λ j. isFilled (same-entry same (i * cols + j) k)) (below cols),
+    )
 
     -- every edge is in the same place
     pub same-graph : tanner p rows cols lift ≡ tanner q rows cols lift

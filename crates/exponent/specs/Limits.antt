@@ -2,7 +2,7 @@
 use Prim.Native.Nat.{ℕ, _*_, _≤_, _<_}
 use mathlib.Core.Path.{_≡_}
 use mathlib.Core.Bool.{Bool, false, not, _||_}
-use mathlib.Core.List.{List, [], _∷_}
+use mathlib.Core.List.{List, [], _∷_, _++_}
 use mathlib.Core.Option.{Option, none, some}
 use lib.Dec.{ltb, eqb}
 use lib.IntN.{ℤ, pos}
@@ -18,16 +18,22 @@ use Rattle.exponent.specs.Plan.{invalidEntry}
 abbrev pub outside : ℕ → ℕ → ℕ → Bool
 outside low high n = ltb n low || ltb high n
 
--- Rows 1 to 192, columns 1 to 512, lift 1 to 4,096, at most 65,536 bits, a list of rows × cols numbers, no invalid entry.
-unfoldable pub planRules : List ℤ → ℕ → ℕ → ℕ → List Rule
-planRules plan rows cols lift =
+-- Rows 1 to 192, columns 1 to 512, lift 1 to 4,096, at most 65,536 bits, a list of rows × cols numbers;
+abbrev pub sizeRules : ℕ → ℕ → ℕ → ℕ → List Rule
+sizeRules numbers rows cols lift =
     refuse Rows (outside 1 192 rows)
     ∷ refuse Cols (outside 1 512 cols)
     ∷ refuse Lift (outside 1 4096 lift)
     ∷ refuse Bits (ltb 65536 (cols * lift))
-    ∷ refuse PlanLength (not (eqb (length plan) (rows * cols)))
-    ∷ refuse (Entry (firstPlace (invalidEntry lift) plan)) (somewhere (invalidEntry lift) plan)
+    ∷ refuse PlanLength (not (eqb numbers (rows * cols)))
     ∷ []
+
+-- no invalid entry.
+abbrev pub entryRules : ℕ → List ℤ → List Rule
+entryRules lift entries = refuse (Entry (firstPlace (invalidEntry lift) entries)) (somewhere (invalidEntry lift) entries) ∷ []
+
+unfoldable pub planRules : List ℤ → ℕ → ℕ → ℕ → List Rule
+planRules plan rows cols lift = sizeRules (length plan) rows cols lift ++ entryRules lift plan
 
 -- the answer of `validate`
 abbrev pub validity : Option Refusal → Validity

@@ -11,22 +11,23 @@ use native.Mathlib.Numerals.{add-one}
 use lib.IntN.{ℤ}
 use lib.ListN.{length}
 use borrow.Author.Tests.{lt-ltb, le-ltb}
-use Rattle.graph.specs.Count.{range, below, count}
+use Rattle.graph.specs.Count.{range}
 use Rattle.graph.proofs.Decide.{by-le, both-ways}
-use Rattle.graph.proofs.Count.{count-le, length-range}
 use Rattle.exponent.specs.declared.block.Block.{Block}
 use Rattle.exponent.specs.declared.block.Block.the-variants.{Zero, Shift, Invalid}
 use Rattle.exponent.specs.declared.Shape.{Shape}
 use Rattle.exponent.specs.Plan.{filled}
 use Rattle.exponent.specs.Limits.{WellFormed}
-use Rattle.exponent.specs.Tanner.{tanner, columnWeight, rowWeight, graphOf}
+use Rattle.exponent.specs.Tanner.{tanner, graphOf}
 use Rattle.exponent.specs.Neighbours.{gather}
 use Rattle.exponent.proofs.Tanner.{shift-low, bits-of-check, checks-of-bit, check-degree, bit-degree}
 use Rattle.index.specs.Index.{NextFrom}
-use Rattle.lines.specs.declared.sides.Side.{Side}
-use Rattle.lines.specs.declared.sides.Side.the-variants.{Bits, Checks}
+use Rattle.weights.specs.declared.Side.{Side}
+use Rattle.weights.specs.declared.Side.the-variants.{Bits, Checks}
 use Rattle.lines.specs.Alist.{nodes, neighbours}
-use Rattle.lines.specs.Sides.{Ready, Small, lanes, blocks, nodeCount, blockOn, filledOn, nextBlock, filledOne, weightOf, turned, pickBy, pickOn, numbered, numberIn, restOf}
+use Rattle.weights.specs.Weights.{lanes, blocks, blockOn, filledOn, weightOf}
+use Rattle.weights.proofs.Weights.{lanes-few}
+use Rattle.lines.specs.Sides.{Ready, Small, nodeCount, nextBlock, turned, pickBy, pickOn, numbered, numberIn, restOf}
 
 -- Ranges, and what skips what does not count.
 
@@ -84,23 +85,8 @@ module _ (lift : ℕ) (pick : ℕ → Option ℕ) (k : ℕ) (l : List ℕ) where
 pub small : (plan : List ℤ) (s : Shape) → WellFormed plan (s .rows) (s .cols) (s .lift) → Small s
 small plan s w = record { few-rows = w .few-rows; few-cols = w .few-cols; small-lift = w .small-lift }
 
-module _ (s : Shape) (side : Side) (h : Small s) where
-  pub lanes-few : lanes s side ≤ 512
-  lanes-few = by side
-    where
-      by : (side : Side) → lanes s side ≤ 512
-      by Bits = h .few-cols
-      by Checks = omega (arith, h .few-rows)
-
-  pub blocks-few : blocks s side ≤ 512
-  blocks-few = by side
-    where
-      by : (side : Side) → blocks s side ≤ 512
-      by Bits = omega (arith, h .few-rows)
-      by Checks = h .few-cols
-
-  pub nodes-few : nodeCount s side ≤ 2097152
-  nodes-few = mul-le-mul {n₂ = 512} {m₂ = 4096} lanes-few (h .small-lift)
+pub nodes-few : (s : Shape) (side : Side) → Small s → nodeCount s side ≤ 2097152
+nodes-few s side h = mul-le-mul {n₂ = 512} {m₂ = 4096} (lanes-few s side (h .few-rows) (h .few-cols)) (h .small-lift)
 
 pub node-lane : (s : Shape) (side : Side) (x : ℕ) → 0 < s .lift → x < nodeCount s side → x / s .lift < lanes s side
 node-lane s side x h k = div-lt-iff-lt-mul h .1 k
@@ -113,37 +99,9 @@ module _ (plan : List ℤ) (s : Shape) where
   nodes-of Bits = refl
   nodes-of Checks = refl
 
-  weight-count : (side : Side) (lane : ℕ) → weightOf plan s side lane ≡ count (filledOn plan s side lane) (below (blocks s side))
-  unfolding columnWeight rowWeight
-  weight-count Bits lane = refl
-  weight-count Checks lane = refl
-
-  pub weight-le : (side : Side) (lane : ℕ) → weightOf plan s side lane ≤ blocks s side
-  weight-le side lane =
-      omega (arith, weight-count side lane, count-le (filledOn plan s side lane) (below (blocks s side)), length-range 0 (blocks s side))
-
   pub shift-on : (side : Side) (lane k e : ℕ) → 0 < s .lift → blockOn plan s side lane k ≡ Shift e → e < s .lift
   shift-on Bits lane k e h q = shift-low plan (s .cols) (s .lift) k lane e h q
   shift-on Checks lane k e h q = shift-low plan (s .cols) (s .lift) lane k e h q
-
-  -- the filled blocks of a lane from block k on
-  pub countFrom : Side → ℕ → ℕ → ℕ
-  countFrom side lane k = count (filledOn plan s side lane) (range k (blocks s side - k))
-
-  pub count-start : (side : Side) (lane : ℕ) → countFrom side lane 0 ≡ weightOf plan s side lane
-  unfolding countFrom
-  count-start side lane = ap (λ (n : ℕ). count (filledOn plan s side lane) (range 0 n)) (sub-zero (blocks s side)) ∙ sym (weight-count side lane)
-
-  pub count-end : (side : Side) (lane k : ℕ) → blocks s side ≤ k → countFrom side lane k ≡ 0
-  unfolding countFrom count
-  count-end side lane k h = rw (range-end k (blocks s side) h)
-
-  count-next : (side : Side) (lane k : ℕ) → countFrom side lane k ≡ filledOne plan s side lane k + countFrom side lane (k + 1)
-  unfolding countFrom filledOne count
-  count-next side lane k =
-      by-le (blocks s side) k
-      (λ h. rw (le-ltb k (blocks s side) h, range-end k (blocks s side) h, range-end (k + 1) (blocks s side) (omega arith)))
-      (λ h. rw (lt-ltb k (blocks s side) h, range-next k (blocks s side) h))
 
   -- the number that block k has for node y of a lane
   module _ (side : Side) (lane y k : ℕ) where
@@ -217,10 +175,6 @@ module _ (plan : List ℤ) (s : Shape) where
 
       pub next-le : (k ≤ m) × (m ≤ blocks s side)
       next-le = (next .from-here, next .inside)
-
-      pub count-turn : countFrom side lane k ≡ filledOne plan s side lane m + countFrom side lane (m + 1)
-      unfolding countFrom count
-      count-turn = jump (count (filledOn plan s side lane)) (filledOn plan s side lane) (λ k l q. rw q (omega arith)) k (blocks s side) m next ∙ count-next side lane m
 
     module _ (side : Side) (x k m : ℕ) (h : x < nodeCount s side) (i : k < blocks s side) (e : m ≡ nextBlock down along s side (x / s .lift) k) where
       landed : NextFrom (filledOn plan s side (x / s .lift)) k (blocks s side) m

@@ -1,9 +1,9 @@
 -- The numbers of a line from one on, and the lines in their order. Assumes nothing.
-use Prim.Native.Nat.{ℕ, zero, suc, _+_, _-_, _*_, _/_, _%_, _≤_, _<_}
+use Prim.Native.Nat.{ℕ, zero, suc, _+_, _-_, _/_, _≤_, _<_}
 use mathlib.Core.Path.{_≡_, refl, sym, ap, ap₂, _∙_}
 use mathlib.Core.List.{List, [], _∷_, _++_, map}
 use native.Mathlib.Omega.{arith}
-use native.Mathlib.Nat.{sub-zero, mod-lt, mod-eq-of-lt, div-add-mod'}
+use native.Mathlib.Nat.{sub-zero}
 use native.Mathlib.Numerals.{add-one}
 use lib.IntN.{ℤ}
 use lib.ListN.{length, getD, drop, drop-of-length-le, length-append, length-map, List·getD-append, List·getD-map}
@@ -12,20 +12,22 @@ use Rattle.graph.specs.Count.{below}
 use Rattle.graph.specs.Graph.{Bipartite}
 use Rattle.graph.proofs.Count.{length-range, getD-range, getD-map-below, length-map-below}
 use Rattle.exponent.specs.declared.Shape.{Shape}
+use Rattle.exponent.specs.Limits.{WellFormed}
 use Rattle.exponent.specs.Tanner.{graphOf}
-use Rattle.exponent.proofs.Numbers.{block-of}
 use Rattle.tokens.specs.declared.Form.{Form}
 use Rattle.tokens.specs.declared.Form.the-variants.{Padded, Unpadded}
-use Rattle.lines.specs.declared.sides.Side.{Side}
-use Rattle.lines.specs.declared.sides.Side.the-variants.{Bits, Checks}
+use Rattle.weights.specs.declared.Side.{Side}
+use Rattle.weights.specs.declared.Side.the-variants.{Bits, Checks}
 use Rattle.lines.specs.declared.Layout.{Layout}
 use Rattle.lines.specs.declared.Line.{Line}
 use Rattle.lines.specs.declared.Line.the-variants.{Sizes, Greatest, Degrees, Node}
 use Rattle.lines.specs.declared.generate.Number.{Number}
 use Rattle.lines.specs.Alist.{nodes, neighbours, degrees, greatest, fill, lists, linesIn}
-use Rattle.lines.specs.Sides.{nodeCount, weightOf, restOf}
-use Rattle.lines.specs.Lines.{lineIn, lineOf, order, sideAt, mostOf, Measured, listWidth, widthOf, InLine, lineRest, Carried, Fills}
-use Rattle.lines.proofs.Lanes.{nodes-of, neighbours-rest, degree-weight}
+use Rattle.weights.specs.Weights.{listOf, Weighed}
+use Rattle.weights.proofs.Weights.{listed-weight}
+use Rattle.lines.specs.Sides.{nodeCount, restOf}
+use Rattle.lines.specs.Lines.{lineIn, lineOf, order, sideAt, mostOf, Measured, listWidth, widthOf, InLine, lineRest, Fills}
+use Rattle.lines.proofs.Lanes.{nodes-of, node-lane, neighbours-rest, degree-weight}
 use Rattle.lines.proofs.Weights.{degree-most}
 
 pub first-side : (k : ℕ) → k ≡ 0 → Bits ≡ sideAt k
@@ -76,52 +78,79 @@ unfolding fill
 fill-own [] = refl
 fill-own (n ∷ ns) = ap (λ (l : List ℕ). n ∷ l) (fill-own ns)
 
--- A line of a measured plan.
+-- The line of a node in the padded form: no list of weights is needed for it.
 
-module _ (plan : List ℤ) (l : Layout) (down along : List ℕ) (m : Measured plan l down along) where
+module _ (plan : List ℤ) (l : Layout) (side : Side) (x : ℕ) where
+  pub node-start : WellFormed plan (l .shape .rows) (l .shape .cols) (l .shape .lift) → mostOf l side ≡ greatest (degrees (graphOf plan (l .shape)) side)
+      → lineRest plan l (Node side x) (mostOf l side) 0 0 ≡ lineOf (graphOf plan (l .shape)) (Node side x)
+  unfolding lineRest lineIn
+  node-start well most = rw (sub-zero (mostOf l side), most, neighbours-rest plan (l .shape) well side x)
+
+  pub node-end : (w k from : ℕ) → w ≤ k → lineRest plan l (Node side x) w k from ≡ []
+  unfolding lineRest fill
+  node-end w k from h = let e : w - k ≡ 0 = omega arith in rw e
+
+  pub node-goes : (k from : ℕ) (r : Number) → Fills (restOf plan (l .shape) side x) from r
+      → (w : ℕ) → k < w → lineRest plan l (Node side x) w k from ≡ r .value ∷ lineRest plan l (Node side x) w (k + 1) (r .next)
+  unfolding lineRest
+  node-goes k from r p w i = fill-next (restOf plan (l .shape) side x) from r k w i p
+
+pub most-is : (plan : List ℤ) (l : Layout) (down along : List ℕ) → Measured plan l down along → (side : Side) → mostOf l side ≡ greatest (degrees (graphOf plan (l .shape)) side)
+most-is plan l down along m Bits = m .most-bits
+most-is plan l down along m Checks = m .most-checks
+
+-- A line of a measured plan with its lists of weights.
+
+module _ (plan : List ℤ) (l : Layout) (down along rows cols : List ℕ) (m : Measured plan l down along) (v : Weighed plan (l .shape) rows cols) where
   abbrev G : Bipartite
   G = graphOf plan (l .shape)
 
-  most-is : (side : Side) → mostOf l side ≡ greatest (degrees (graphOf plan (l .shape)) side)
-  most-is Bits = m .most-bits
-  most-is Checks = m .most-checks
+  most : (side : Side) → mostOf l side ≡ greatest (degrees (graphOf plan (l .shape)) side)
+  most = most-is plan l down along m
+
+  -- the lists tell the degree of a node
+  pub degree-listed : (side : Side) (x : ℕ) → x < nodeCount (l .shape) side → getD (listOf side rows cols) (x / l .shape .lift) 0 ≡ length (neighbours (graphOf plan (l .shape)) side x)
+  degree-listed side x h =
+      listed-weight plan (l .shape) rows cols v side (x / l .shape .lift) (node-lane (l .shape) side x (m .ready .well .some-lift) h)
+      ∙ sym (degree-weight plan (l .shape) (m .ready .well) side x)
 
   -- a node's list, filled up to its own length, is the list
-  node-own : (side : Side) (x : ℕ) → fill (weightOf plan (l .shape) side (x / l .shape .lift)) (map suc (neighbours (graphOf plan (l .shape)) side x)) ≡ map suc (neighbours (graphOf plan (l .shape)) side x)
-  node-own side x =
-      ap (λ (w : ℕ). fill w (map suc (neighbours G side x))) (sym (length-map (neighbours G side x) suc ∙ degree-weight plan (l .shape) (m .ready .well) side x))
+  node-own : (side : Side) (x : ℕ) → x < nodeCount (l .shape) side
+      → fill (getD (listOf side rows cols) (x / l .shape .lift) 0) (map suc (neighbours (graphOf plan (l .shape)) side x)) ≡ map suc (neighbours (graphOf plan (l .shape)) side x)
+  node-own side x h =
+      ap (λ (w : ℕ). fill w (map suc (neighbours G side x))) (degree-listed side x h ∙ sym (length-map (neighbours G side x) suc))
       ∙ fill-own (map suc (neighbours G side x))
 
-  pub line-start : (form : Form) (line : Line) → lineRest plan l line (widthOf form plan l line) 0 0 ≡ lineIn form (graphOf plan (l .shape)) line
+  pub line-start : (form : Form) (line : Line) → InLine l line → lineRest plan l line (widthOf form l rows cols line) 0 0 ≡ lineIn form (graphOf plan (l .shape)) line
   unfolding lineRest lineIn
-  line-start form Sizes = refl
-  line-start form Greatest = refl
-  line-start form (Degrees side) = refl
-  line-start Padded (Node side x) = rw (sub-zero (mostOf l side), most-is side, neighbours-rest plan (l .shape) (m .ready .well) side x)
-  line-start Unpadded (Node side x) =
-      rw (sub-zero (weightOf plan (l .shape) side (x / l .shape .lift)), ← neighbours-rest plan (l .shape) (m .ready .well) side x) (node-own side x)
+  line-start form Sizes i = refl
+  line-start form Greatest i = refl
+  line-start form (Degrees side) i = refl
+  line-start Padded (Node side x) i = node-start plan l side x (m .ready .well) (most side)
+  line-start Unpadded (Node side x) i =
+      rw (sub-zero (getD (listOf side rows cols) (x / l .shape .lift) 0), ← neighbours-rest plan (l .shape) (m .ready .well) side x) (node-own side x i)
 
-  pub line-end : (form : Form) (line : Line) (k from : ℕ) → widthOf form plan l line ≤ k → lineRest plan l line (widthOf form plan l line) k from ≡ []
-  unfolding lineRest lineIn fill
+  pub line-end : (form : Form) (line : Line) (k from : ℕ) → widthOf form l rows cols line ≤ k → lineRest plan l line (widthOf form l rows cols line) k from ≡ []
+  unfolding lineRest lineIn
   line-end form Sizes k from h = drop-of-length-le (lineOf G Sizes) h
   line-end form Greatest k from h = drop-of-length-le (lineOf G Greatest) h
   line-end form (Degrees side) k from h = drop-of-length-le (degrees G side) {i = k} (omega (arith, length-degrees G side, nodes-of plan (l .shape) side))
-  line-end form (Node side x) k from h = let e : listWidth form plan l side x - k ≡ 0 = omega arith in rw e
+  line-end form (Node side x) k from h = node-end plan l side x (listWidth form l rows cols side x) k from h
 
   -- no line is longer in the unpadded form
-  list-le : (form : Form) (side : Side) (x : ℕ) → x < nodeCount (l .shape) side → listWidth form plan l side x ≤ mostOf l side
+  list-le : (form : Form) (side : Side) (x : ℕ) → x < nodeCount (l .shape) side → listWidth form l rows cols side x ≤ mostOf l side
   list-le Padded side x i = omega arith
   list-le Unpadded side x i =
-      omega (arith, most-is side, degree-weight plan (l .shape) (m .ready .well) side x, degree-most G side x (omega (arith, nodes-of plan (l .shape) side)))
+      omega (arith, most side, degree-listed side x i, degree-most G side x (omega (arith, nodes-of plan (l .shape) side)))
 
-  pub width-le : (form : Form) (line : Line) → InLine l line → widthOf form plan l line ≤ widthOf Padded plan l line
+  pub width-le : (form : Form) (line : Line) → InLine l line → widthOf form l rows cols line ≤ widthOf Padded l rows cols line
   width-le form Sizes i = omega arith
   width-le form Greatest i = omega arith
   width-le form (Degrees side) i = omega arith
   width-le form (Node side x) i = list-le form side x i
 
   -- the line goes on with v and, after it, from block `next` on
-  module _ (line : Line) (k from : ℕ) (h : k < widthOf Padded plan l line) where
+  module _ (line : Line) (k from : ℕ) (h : k < widthOf Padded l rows cols line) where
     abbrev pub GoesOn : ℕ → ℕ → Type 0
     GoesOn v next = (w : ℕ) → k < w → lineRest plan l line w k from ≡ v ∷ lineRest plan l line w (k + 1) next
 
@@ -132,40 +161,16 @@ module _ (plan : List ℤ) (l : Layout) (down along : List ℕ) (m : Measured pl
 
     pub greatest-next : line ≡ Greatest → (v : ℕ) → v ≡ mostOf l (sideAt k) → GoesOn v 0
     unfolding lineRest lineIn
-    greatest-next e v q w i = rw (e, q ∙ most-is (sideAt k)) (pair-next (λ side. greatest (degrees (graphOf plan (l .shape)) side)) k (rw e at h))
+    greatest-next e v q w i = rw (e, q ∙ most (sideAt k)) (pair-next (λ side. greatest (degrees (graphOf plan (l .shape)) side)) k (rw e at h))
 
-    pub degree-next : (side : Side) → line ≡ Degrees side → (v : ℕ) → v ≡ weightOf plan (l .shape) side (k / l .shape .lift) → (next : ℕ) → GoesOn v next
+    pub degree-next : (side : Side) → line ≡ Degrees side → (n : ℕ) → n ≡ getD (listOf side rows cols) (k / l .shape .lift) 0 → GoesOn n 0
     unfolding lineRest lineIn
-    degree-next side e v q next w j =
-        rw (e, q ∙ sym (degree-weight plan (l .shape) (m .ready .well) side k))
-        (degrees-next G side k (let i : k < nodeCount (l .shape) side = rw e at h in omega (arith, nodes-of plan (l .shape) side)))
+    degree-next side e n q w j =
+        let i : k < nodeCount (l .shape) side = rw e at h in
+        rw (e, q ∙ degree-listed side k i) (degrees-next G side k (omega (arith, nodes-of plan (l .shape) side)))
 
     pub node-next : (side : Side) (x : ℕ) → line ≡ Node side x → (r : Number) → Fills (restOf plan (l .shape) side x) from r → GoesOn (r .value) (r .next)
-    unfolding lineRest
-    node-next side x e r p w i = rw e (fill-next (restOf plan (l .shape) side x) from r k w i p)
-
--- WHAT A LINE CARRIES from number to number.
-
-pub carried-start : (plan : List ℤ) (l : Layout) (line : Line) → 0 < l .shape .lift → Carried plan l line 0 0
-carried-start plan l Sizes h = tt
-carried-start plan l Greatest h = tt
-carried-start plan l (Degrees side) h = λ q. absurd (omega (arith, mod-eq-of-lt h))
-carried-start plan l (Node side x) h = tt
-
-pub carried-last : (plan : List ℤ) (l : Layout) (line : Line) (k from : ℕ) (side : Side) → line ≡ Degrees side → Carried plan l line k from → Carried plan l (Degrees side) k from
-carried-last plan l line k from side e h = rw e at h
-
--- the next node is in the same lane, unless a lane begins with it
-same-lane : (lift k : ℕ) → 0 < lift → 0 < (k + 1) % lift → k / lift ≡ (k + 1) / lift
-same-lane lift k h q =
-    let low = mod-lt (k + 1) h in
-    let whole = div-add-mod' (k + 1) lift in
-    let e : k ≡ (k + 1) / lift * lift + ((k + 1) % lift - 1) = omega arith in
-    ap (λ (n : ℕ). n / lift) e ∙ block-of lift h ((k + 1) / lift) ((k + 1) % lift - 1) (omega arith)
-
-pub carried-degree : (plan : List ℤ) (l : Layout) (line : Line) (k v : ℕ) (side : Side) → 0 < l .shape .lift → line ≡ Degrees side
-    → v ≡ weightOf plan (l .shape) side (k / l .shape .lift) → Carried plan l line (k + 1) v
-carried-degree plan l line k v side h e q = rw e (λ j. q ∙ ap (weightOf plan (l .shape) side) (same-lane (l .shape .lift) k h j))
+    node-next side x e r p w i = rw e (node-goes plan l side x k from r p w i)
 
 -- THE ORDER. Line i of it, and all lines.
 

@@ -6,8 +6,10 @@ use mathlib.Core.List.{List, [], _∷_, _++_, map}
 use native.Mathlib.Omega.{arith}
 use native.Mathlib.Nat.{sub-zero}
 use lib.IntN.{ℤ}
-use lib.ListN.{length, length-map}
-use Rattle.graph.specs.Count.{range, below, Mem}
+use native.Mathlib.Numerals.{add-one}
+use lib.ListN.{length, getD, drop, drop-of-length-le, length-map}
+use lib.Seq.{drop-cons}
+use Rattle.graph.specs.Count.{below, Mem}
 use Rattle.graph.specs.Graph.{Bipartite}
 use Rattle.graph.proofs.Lists.{mem-image, each-image}
 use Rattle.graph.proofs.Neighbours.{mem-below, below-mem}
@@ -15,11 +17,15 @@ use Rattle.exponent.specs.declared.Shape.{Shape}
 use Rattle.exponent.specs.Limits.{WellFormed}
 use Rattle.exponent.specs.Tanner.{tanner, columnWeight, rowWeight, graphOf}
 use Rattle.exponent.proofs.Numbers.{block-of, number-low}
-use Rattle.lines.specs.declared.sides.Side.{Side}
-use Rattle.lines.specs.declared.sides.Side.the-variants.{Bits, Checks}
+use Rattle.weights.specs.declared.Side.{Side}
+use Rattle.weights.specs.declared.Side.the-variants.{Bits, Checks}
 use Rattle.lines.specs.Alist.{nodes, neighbours, degrees, greatest, fill}
-use Rattle.lines.specs.Sides.{lanes, blocks, weightOf}
-use Rattle.lines.proofs.Lanes.{range-next, range-end, node-lane, nodes-of, weight-le, degree-weight}
+use Rattle.weights.specs.Weights.{lanes, blocks, weightOf, weightsOf, Weighed}
+use Rattle.weights.proofs.Weights.{weight-le, listed-length}
+use Rattle.lines.specs.declared.Layout.{Layout}
+use Rattle.lines.specs.Sides.{Ready}
+use Rattle.lines.specs.Lines.{Measured, layoutOf, Listed}
+use Rattle.lines.proofs.Lanes.{node-lane, nodes-of, small, degree-weight}
 
 -- The greatest of a list: no member is greater, and nothing that no member exceeds is less.
 
@@ -78,23 +84,27 @@ module _ (plan : List ℤ) (rows cols lift : ℕ) (w : WellFormed plan rows cols
   unfolding degrees tanner
   check-degrees = map-same _ _ (below (rows * lift)) (degree-weight plan shape w Checks)
 
--- The greatest degree of a side, lane by lane.
+-- the greatest of a list from its k-th number on
+pub mostFrom : List ℕ → ℕ → ℕ
+mostFrom l k = greatest (drop k l)
 
-pub mostFrom : (ℕ → ℕ) → ℕ → ℕ → ℕ
-mostFrom f n k = greatest (map f (range k (n - k)))
+pub most-start : (l : List ℕ) → mostFrom l 0 ≡ greatest l
+unfolding mostFrom
+most-start l = refl
 
-pub most-next : (f : ℕ → ℕ) (n k : ℕ) → k < n → mostFrom f n k ≡ max (f k) (mostFrom f n (k + 1))
+pub most-next : (l : List ℕ) (k : ℕ) → k < length l → mostFrom l k ≡ max (getD l k 0) (mostFrom l (k + 1))
 unfolding mostFrom greatest
-most-next f n k h = ap (λ (l : List ℕ). greatest (map f l)) (range-next k n h)
+most-next l k h = ap greatest (drop-cons l k 0 h) ∙ ap (λ (n : ℕ). max (getD l k 0) (greatest (drop n l))) (sym (add-one k))
 
-pub most-end : (f : ℕ → ℕ) (n k : ℕ) → n ≤ k → mostFrom f n k ≡ 0
+pub most-end : (l : List ℕ) (k : ℕ) → length l ≤ k → mostFrom l k ≡ 0
 unfolding mostFrom greatest
-most-end f n k h = ap (λ (l : List ℕ). greatest (map f l)) (range-end k n h)
+most-end l k h = ap greatest (drop-of-length-le l h)
 
+-- THE GREATEST WEIGHT of a side is its greatest degree
 module _ (plan : List ℤ) (s : Shape) (w : WellFormed plan (s .rows) (s .cols) (s .lift)) (side : Side) where
-  pub most-start : mostFrom (weightOf plan s side) (lanes s side) 0 ≡ greatest (degrees (graphOf plan s) side)
-  unfolding mostFrom degrees
-  most-start = ap (λ (n : ℕ). greatest (map (weightOf plan s side) (range 0 n))) (let e : lanes s side - 0 ≡ lanes s side = omega arith in e) ∙ omega (arith, up, down)
+  pub most-weight : greatest (weightsOf plan s side) ≡ greatest (degrees (graphOf plan s) side)
+  unfolding weightsOf degrees
+  most-weight = omega (arith, up, down)
     where
       down : greatest (map (weightOf plan s side) (below (lanes s side))) ≤ greatest (degrees (graphOf plan s) side)
       down =
@@ -120,3 +130,16 @@ module _ (plan : List ℤ) (s : Shape) (w : WellFormed plan (s .rows) (s .cols) 
       greatest-le (blocks s side) (degrees (graphOf plan s) side)
       (each-image (λ x. length (neighbours (graphOf plan s) side x)) (λ n. n ≤ blocks s side) (below (nodes (graphOf plan s) side))
       (λ x m. omega (arith, degree-weight plan s w side x, weight-le plan s side (x / s .lift))))
+
+-- the layout by the lists is that of the plan
+pub measured : (plan : List ℤ) (s : Shape) (down along rows cols : List ℕ) → Ready plan s down along → Weighed plan s rows cols → Measured plan (layoutOf s rows cols) down along
+measured plan s down along rows cols r v =
+    record {
+      ready = r;
+      most-bits = ap greatest (v .cols-right) ∙ most-weight plan s (r .well) Bits;
+      most-checks = ap greatest (v .rows-right) ∙ most-weight plan s (r .well) Checks;
+    }
+
+pub listed : (plan : List ℤ) (l : Layout) (down along rows cols : List ℕ) → Measured plan l down along → Weighed plan (l .shape) rows cols → Listed l rows cols
+listed plan l down along rows cols m v =
+    record { small = small plan (l .shape) (m .ready .well); some-lift = m .ready .well .some-lift; whole = listed-length plan (l .shape) rows cols v }

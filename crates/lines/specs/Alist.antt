@@ -9,8 +9,8 @@ use Rattle.graph.specs.Graph.{Bipartite, bitsOf, checksOf}
 use Rattle.exponent.specs.Tanner.{tanner}
 use Rattle.tokens.specs.declared.Form.{Form}
 use Rattle.tokens.specs.declared.Form.the-variants.{Padded, Unpadded}
-use Rattle.lines.specs.declared.sides.Side.{Side}
-use Rattle.lines.specs.declared.sides.Side.the-variants.{Bits, Checks}
+use Rattle.weights.specs.declared.Side.{Side}
+use Rattle.weights.specs.declared.Side.the-variants.{Bits, Checks}
 
 -- how many bits there are, or checks
 abbrev pub nodes : Bipartite → Side → ℕ

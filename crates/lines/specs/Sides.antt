@@ -1,22 +1,21 @@
 -- What the inner functions compute: a node's blocks and neighbours, on either side of the graph. A bit's blocks are those of
 -- its column, a check's those of its row: a lane of blocks.
 use Prim.Native.Nat.{ℕ, suc, _+_, _-_, _*_, _/_, _%_, _≤_}
-use mathlib.Core.Bool.{Bool, cond}
+use mathlib.Core.Bool.{cond}
 use mathlib.Core.List.{List}
 use mathlib.Core.Option.{Option, none, some}
 use lib.Dec.{ltb}
 use lib.IntN.{ℤ}
 use lib.ListN.{getD}
-use Rattle.graph.specs.Count.{range, one}
+use Rattle.graph.specs.Count.{range}
 use Rattle.exponent.specs.declared.block.Block.{Block}
 use Rattle.exponent.specs.declared.Shape.{Shape}
-use Rattle.exponent.specs.Plan.{blockAt, filled}
 use Rattle.exponent.specs.Limits.{WellFormed}
-use Rattle.exponent.specs.Tanner.{columnWeight, rowWeight}
 use Rattle.exponent.specs.Neighbours.{gather, bitIn, checkIn}
 use Rattle.index.specs.Index.{DownIndex, AlongIndex}
-use Rattle.lines.specs.declared.sides.Side.{Side}
-use Rattle.lines.specs.declared.sides.Side.the-variants.{Bits, Checks}
+use Rattle.weights.specs.declared.Side.{Side}
+use Rattle.weights.specs.Weights.{lanes, blocks, blockOn}
+use Rattle.weights.specs.declared.Side.the-variants.{Bits, Checks}
 
 -- a valid plan with its two index lists
 pub record Ready (plan : List ℤ) (s : Shape) (down along : List ℕ) : Type 0 where
@@ -30,35 +29,13 @@ pub record Small (s : Shape) : Type 0 where
   pub few-cols : s .cols ≤ 512
   pub small-lift : s .lift ≤ 4096
 
-abbrev pub lanes : Shape → Side → ℕ
-lanes s Bits = s .cols
-lanes s Checks = s .rows
-
-abbrev pub blocks : Shape → Side → ℕ
-blocks s Bits = s .rows
-blocks s Checks = s .cols
-
 abbrev pub nodeCount : Shape → Side → ℕ
 nodeCount s side = lanes s side * s .lift
-
-abbrev pub blockOn : List ℤ → Shape → Side → ℕ → ℕ → Block
-blockOn plan s Bits lane k = blockAt plan (s .cols) (s .lift) k lane
-blockOn plan s Checks lane k = blockAt plan (s .cols) (s .lift) lane k
-
-abbrev pub filledOn : List ℤ → Shape → Side → ℕ → ℕ → Bool
-filledOn plan s side lane k = filled (blockOn plan s side lane k)
 
 -- what the index lists say of the blocks from k on
 abbrev pub nextBlock : List ℕ → List ℕ → Shape → Side → ℕ → ℕ → ℕ
 nextBlock down along s Bits lane k = getD down (k * s .cols + lane) 0
 nextBlock down along s Checks lane k = getD along (lane * s .cols + k) 0
-
-unfoldable pub filledOne : List ℤ → Shape → Side → ℕ → ℕ → ℕ
-filledOne plan s side lane k = cond (ltb k (blocks s side)) (one (filledOn plan s side lane k)) 0
-
-abbrev pub weightOf : List ℤ → Shape → Side → ℕ → ℕ
-weightOf plan s Bits lane = columnWeight plan (s .rows) (s .cols) (s .lift) lane
-weightOf plan s Checks lane = rowWeight plan (s .cols) (s .lift) lane
 
 -- where a block shifted by e leads from place y of its lane: back from a bit to a check, forward from a check to a bit
 abbrev pub turned : Side → ℕ → ℕ → ℕ → ℕ

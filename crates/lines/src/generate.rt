@@ -3,16 +3,17 @@ use crate::Line;
 use crate::most_of;
 use crate::side_at;
 use crate::sides;
-use crate::sides::Side;
 use exponent::Shape;
 use tokens::Form;
+use weights::Side;
 ghost use mathlib.Core.Path.{_≡_};
 ghost use mathlib.Core.List.{_∷_};
-ghost use Prim.Native.Nat.{ℕ, _+_, _/_, _%_, _<_};
-ghost use Rattle.lines.specs.Sides.{nodeCount, weightOf, restOf, Ready};
-ghost use Rattle.lines.specs.Lines.{Fills, Measured, widthOf, InLine, Carried, lineRest};
+ghost use Prim.Native.Nat.{ℕ, _+_, _<_};
+ghost use Rattle.weights.specs.Weights.{Weighed};
+ghost use Rattle.lines.specs.Sides.{nodeCount, restOf, Ready};
+ghost use Rattle.lines.specs.Lines.{Fills, Measured, widthOf, InLine, lineRest};
 
-// A number of a line, and what the line goes on from: a block, or the last degree.
+// A number of a line, and the block that the line goes on from.
 pub struct Number {
     pub value: usize,
     pub next: usize,
@@ -31,7 +32,7 @@ pub fn next_neighbour(
     requires { ⌜ Ready (now plan) s (now down) (now along) × (x < nodeCount s side) ⌝ }
     ensures { λ r. ⌜ Fills (restOf (now (plan .entry)) s side x) from r ⌝ }
 {
-    if sides::blocks(s, side) <= from {
+    if weights::blocks(s, side) <= from {
         return Number {
             value: 0,
             next: from,
@@ -45,38 +46,20 @@ pub fn next_neighbour(
     }
 }
 
-// The degree of node k: that of the node before it, `last`, unless a lane begins here.
-fn degree_at(
-    plan: &[i16],
-    down: &[u16],
-    along: &[u16],
-    s: Shape,
-    side: Side,
-    k: usize,
-    last: usize,
-) -> usize
-    requires { ⌜ Ready (now plan) s (now down) (now along) × (k < nodeCount s side) × (0 < k % s .lift → last ≡ weightOf (now plan) s side (k / s .lift)) ⌝ }
-    ensures { λ r. ⌜ r ≡ weightOf (now (plan .entry)) s side (k / s .lift) ⌝ }
-{
-    if 0 < k % s.lift {
-        return last;
-    }
-    sides::weight(plan, down, along, s, side, k / s.lift)
-}
-
-// The k-th number of a line, whatever its width w; `from` is the block that the line has come to, or its last degree.
+// The k-th number of a line, whatever its width w; `from` is the block that the line has come to. Degrees come from the lists of weights.
 pub fn number_at(
     plan: &[i16],
     down: &[u16],
     along: &[u16],
+    byrow: &[u16],
+    bycol: &[u16],
     l: Layout,
     line: Line,
     k: usize,
     from: usize,
 ) -> Number
-    requires { ⌜ Measured (now plan) l (now down) (now along) × InLine l line × (k < widthOf Form.Padded (now plan) l line) × Carried (now plan) l line k from ⌝ }
-    ensures number { λ r. ⌜ ((w : ℕ) → k < w → lineRest (now (plan .entry)) l line w k from ≡ r .value ∷ lineRest (now (plan .entry)) l line w (k + 1) (r .next)) ⌝ }
-    ensures carried { λ r. ⌜ Carried (now (plan .entry)) l line (k + 1) (r .next) ⌝ }
+    requires { ⌜ Measured (now plan) l (now down) (now along) × Weighed (now plan) (l .shape) (now byrow) (now bycol) × (k < widthOf Form.Padded l (now byrow) (now bycol) line) × InLine l line ⌝ }
+    ensures { λ r. ⌜ ((w : ℕ) → k < w → lineRest (now (plan .entry)) l line w k from ≡ r .value ∷ lineRest (now (plan .entry)) l line w (k + 1) (r .next)) ⌝ }
 {
     match line {
         Line::Sizes => Number {
@@ -87,13 +70,10 @@ pub fn number_at(
             value: most_of(l, side_at(k)),
             next: 0,
         },
-        Line::Degrees(side) => {
-            let degree = degree_at(plan, down, along, l.shape, side, k, from);
-            Number {
-                value: degree,
-                next: degree,
-            }
-        }
+        Line::Degrees(side) => Number {
+            value: weights::listed(byrow, bycol, side, k / l.shape.lift),
+            next: 0,
+        },
         Line::Node(side, x) => next_neighbour(plan, down, along, l.shape, side, x, from),
     }
 }

@@ -2,15 +2,16 @@
 ghost use mathlib.Core.Path.{_≡_};
 ghost use Prim.Native.Nat.{_+_, _<_};
 ghost use lib.ListN.{getD};
-ghost use Rattle.lines.specs.Sides.{Small, Ready, nodeCount};
-ghost use Rattle.lines.specs.Lines.{sideAt, mostOf, Measured, listWidth, widthOf, InLine, lineCount, order};
+ghost use Rattle.lines.specs.Alist.{greatest};
+ghost use Rattle.lines.specs.Sides.{Small, nodeCount};
+ghost use Rattle.lines.specs.Lines.{sideAt, mostOf, layoutOf, Listed, listWidth, widthOf, InLine, lineCount, order};
 
 pub mod generate; // generate.rt: the numbers of a line, one after the other
-pub mod sides; // sides.rt: bits and checks, their blocks and their degrees
+pub mod sides; // sides.rt: bits and checks, and their neighbours in a block
 
 use exponent::Shape;
-use sides::Side;
 use tokens::Form;
+use weights::Side;
 
 // The sizes of a plan, and the greatest degree of a bit and of a check.
 pub struct Layout {
@@ -45,34 +46,26 @@ pub fn most_of(l: Layout, side: Side) -> usize
 }
 
 // How many numbers the list of a node has: in the unpadded form as many as its degree.
-fn list_width(
-    plan: &[i16],
-    down: &[u16],
-    along: &[u16],
-    l: Layout,
-    form: Form,
-    side: Side,
-    x: usize,
-) -> usize
-    requires { ⌜ Measured (now plan) l (now down) (now along) × (x < nodeCount (l .shape) side) ⌝ }
-    ensures { λ r. ⌜ r ≡ listWidth form (now (plan .entry)) l side x ⌝ }
+fn list_width(byrow: &[u16], bycol: &[u16], l: Layout, form: Form, side: Side, x: usize) -> usize
+    requires { ⌜ Listed l (now byrow) (now bycol) × (x < nodeCount (l .shape) side) ⌝ }
+    ensures { λ r. ⌜ r ≡ listWidth form l (now (byrow .entry)) (now (bycol .entry)) side x ⌝ }
 {
     match form {
         Form::Padded => most_of(l, side),
-        Form::Unpadded => sides::weight(plan, down, along, l.shape, side, x / l.shape.lift),
+        Form::Unpadded => weights::listed(byrow, bycol, side, x / l.shape.lift),
     }
 }
 
 // How many numbers a line has.
-pub fn width(plan: &[i16], down: &[u16], along: &[u16], l: Layout, form: Form, line: Line) -> usize
-    requires { ⌜ Measured (now plan) l (now down) (now along) × InLine l line ⌝ }
-    ensures { λ r. ⌜ r ≡ widthOf form (now (plan .entry)) l line ⌝ }
+pub fn width(byrow: &[u16], bycol: &[u16], l: Layout, form: Form, line: Line) -> usize
+    requires { ⌜ Listed l (now byrow) (now bycol) × InLine l line ⌝ }
+    ensures { λ r. ⌜ r ≡ widthOf form l (now (byrow .entry)) (now (bycol .entry)) line ⌝ }
 {
     match line {
         Line::Sizes => 2,
         Line::Greatest => 2,
         Line::Degrees(side) => sides::node_count(l.shape, side),
-        Line::Node(side, x) => list_width(plan, down, along, l, form, side, x),
+        Line::Node(side, x) => list_width(byrow, bycol, l, form, side, x),
     }
 }
 
@@ -103,14 +96,29 @@ pub fn line_at(l: Layout, i: usize) -> Line
     }
 }
 
-// The layout of a plan.
-pub fn measure(plan: &[i16], down: &[u16], along: &[u16], s: Shape) -> Layout
-    requires { ⌜ Ready (now plan) s (now down) (now along) ⌝ }
-    ensures { λ r. ⌜ (r .shape ≡ s) × Measured (now (plan .entry)) r (now (down .entry)) (now (along .entry)) ⌝ }
+// The greatest of a list of weights, or 0.
+fn most(list: &[u16]) -> usize
+    ensures { λ r. ⌜ r ≡ greatest (now (list .entry)) ⌝ }
+{
+    let mut most = 0;
+    let mut lane = 0;
+    while lane < list.len() {
+        let w = weights::at(list, lane);
+        if most < w {
+            most = w;
+        }
+        lane += 1;
+    }
+    most
+}
+
+// The layout of a plan, from its lists of weights.
+pub fn measure(byrow: &[u16], bycol: &[u16], s: Shape) -> Layout
+    ensures { λ r. ⌜ r ≡ layoutOf s (now (byrow .entry)) (now (bycol .entry)) ⌝ }
 {
     Layout {
         shape: s,
-        bits: sides::most(plan, down, along, s, Side::Bits),
-        checks: sides::most(plan, down, along, s, Side::Checks),
+        bits: most(bycol),
+        checks: most(byrow),
     }
 }

@@ -17,12 +17,14 @@ use Rattle.exponent.specs.Tanner.{tanner}
 use Rattle.grid.specs.Plan.{planRows, planCols}
 use Rattle.table.specs.declared.Built.{Built as BuiltAnswer}
 use Rattle.table.specs.declared.Built.the-variants.{Built, Refused}
-use Rattle.table.specs.Build.{lent, built}
+use Rattle.refusal.specs.Lent.{lent}
+use Rattle.table.specs.Build.{built}
 use Rattle.alist.specs.Calls.{alistText, writeRules}
 use Rattle.planning.specs.declared.request.Request.{Request}
 use Rattle.planning.specs.Request.{requestOf}
-use Rattle.planning.specs.Output.{rowsOf, colsOf, cyclicRules, cyclicPlan, refusedLine, printed, outputFor, output, planAfter}
+use Rattle.planning.specs.Output.{rowsOf, colsOf, cyclicRules, cyclicPlan, cyclicWeights, refusedLine, printed, outputFor, output, planAfter}
 use Rattle.planning.specs.Steps.{Printed}
+use Rattle.weights.specs.declared.Side.the-variants.{Bits, Checks}
 use Rattle.planning.proofs.Plans.{cyclic-is-good, cyclic-fits}
 
 built-none : (o : Option Refusal) (J L rows cols : ℕ) → Built rows cols ≡ built o J L → (o ≡ none) × (rows ≡ planRows J L) × (cols ≡ planCols J L)
@@ -81,34 +83,41 @@ module _ (q : Request) (plan left : List ℤ) (a : BuiltAnswer) (e : a ≡ built
         let g = cyclic-is-good q (length plan) none-refused in
         moved (λ l m n. WellFormed l m n (q .lift) × Passes (tanner l m n (q .lift)) 12) (g .is-well-formed, g .passes)
 
-    output-is : (text : List ℕ) → printed (lowest (writeRules (take (rows * cols) left) rows cols (q .lift) text)) (alistText (take (rows * cols) left) rows cols (q .lift))
-        ≡ outputFor q (length plan) text
-    unfolding outputFor
-    output-is text =
-        let bytes = printed (lowest (writeRules (cyclicPlan q) (rowsOf q) (colsOf q) (q .lift) text)) (alistText (cyclicPlan q) (rowsOf q) (colsOf q) (q .lift)) in
-        moved (λ l m n. printed (lowest (writeRules l m n (q .lift) text)) (alistText l m n (q .lift)) ≡ outputFor q (length plan) text)
-        (sym (ap (λ (o : Option Refusal). printed o bytes) none-refused))
+    -- what is left in the two lists is the cyclic plan's weights
+    module _ (byrow bycol rows-left cols-left : List ℕ) (b : rows-left ≡ lent (lowest (cyclicRules q (length plan))) (cyclicWeights q Checks) byrow)
+        (c : cols-left ≡ lent (lowest (cyclicRules q (length plan))) (cyclicWeights q Bits) bycol) where
+      output-is : (text : List ℕ)
+          → printed (lowest (writeRules (take (rows * cols) left) rows cols (q .lift) rows-left cols-left text)) (alistText (take (rows * cols) left) rows cols (q .lift)) ≡ outputFor q (length plan) text
+      unfolding outputFor
+      output-is text =
+          let bytes = printed (lowest (writeRules (cyclicPlan q) (rowsOf q) (colsOf q) (q .lift) (cyclicWeights q Checks) (cyclicWeights q Bits) text)) (alistText (cyclicPlan q) (rowsOf q) (colsOf q) (q .lift)) in
+          let rows-are-left : rows-left ≡ cyclicWeights q Checks = b ∙ ap (λ (o : Option Refusal). lent o (cyclicWeights q Checks) byrow) none-refused in
+          let cols-are-left : cols-left ≡ cyclicWeights q Bits = c ∙ ap (λ (o : Option Refusal). lent o (cyclicWeights q Bits) bycol) none-refused in
+          ap₂ (λ (x y : List ℕ). printed (lowest (writeRules (take (rows * cols) left) rows cols (q .lift) x y text)) (alistText (take (rows * cols) left) rows cols (q .lift))) rows-are-left cols-are-left
+          ∙ moved (λ l m n. printed (lowest (writeRules l m n (q .lift) (cyclicWeights q Checks) (cyclicWeights q Bits) text)) (alistText l m n (q .lift)) ≡ outputFor q (length plan) text)
+          (sym (ap (λ (o : Option Refusal). printed o bytes) none-refused))
 
-    pub shown : (text : List ℕ) {n : ℕ} {out : List ℕ}
-        → Printed text (printed (lowest (writeRules (take (rows * cols) left) rows cols (q .lift) text)) (alistText (take (rows * cols) left) rows cols (q .lift))) n out
-        → Printed text (outputFor q (length plan) text) n out
-    shown text {n} {out} w = subst (λ (bytes : List ℕ). Printed text bytes n out) (output-is text) w
+      pub shown : (text : List ℕ) {n : ℕ} {out : List ℕ}
+          → Printed text (printed (lowest (writeRules (take (rows * cols) left) rows cols (q .lift) rows-left cols-left text)) (alistText (take (rows * cols) left) rows cols (q .lift))) n out
+          → Printed text (outputFor q (length plan) text) n out
+      shown text {n} {out} w = subst (λ (bytes : List ℕ). Printed text bytes n out) (output-is text) w
 
   pub turned-away : (r : Refusal) → a ≡ Refused r → (text : List ℕ) {n : ℕ} {out : List ℕ} → Printed text (refusedLine r) n out
       → Printed text (outputFor q (length plan) text) n out
   unfolding outputFor
   turned-away r h text {n} {out} w =
-      let bytes = printed (lowest (writeRules (cyclicPlan q) (rowsOf q) (colsOf q) (q .lift) text)) (alistText (cyclicPlan q) (rowsOf q) (colsOf q) (q .lift)) in
+      let bytes = printed (lowest (writeRules (cyclicPlan q) (rowsOf q) (colsOf q) (q .lift) (cyclicWeights q Checks) (cyclicWeights q Bits) text)) (alistText (cyclicPlan q) (rowsOf q) (colsOf q) (q .lift)) in
       subst (λ (line : List ℕ). Printed text line n out)
       (sym (ap (λ (o : Option Refusal). printed o bytes) (built-some refusal (q .order) (q .order) r (sym h ∙ e)))) w
 
-  -- the same of the input that the request was read from
-  pub told : (input text : List ℕ) → q ≡ requestOf input → {n : ℕ} {out : List ℕ} → Printed text (outputFor q (length plan) text) n out
-      → (n ≡ min (length (output input (length plan) text)) (length text)) × ((out ≡ sets text 0 (output input (length plan) text)) × (left ≡ planAfter input plan))
-  told input text r w = (
-    w .counted ∙ ap (λ (x : Request). min (length (outputFor x (length plan) text)) (length text)) r,
-    (
-      w .text ∙ ap (λ (x : Request). sets text 0 (outputFor x (length plan) text)) r,
-      p ∙ ap (λ (x : Request). lent (lowest (cyclicRules x (length plan))) (sets plan 0 (cyclicPlan x)) plan) r,
-    ),
-  )
+-- the same of the input that the request was read from
+pub told : (q : Request) (plan left : List ℤ) → left ≡ lent (lowest (cyclicRules q (length plan))) (sets plan 0 (cyclicPlan q)) plan
+    → (input text : List ℕ) → q ≡ requestOf input → {n : ℕ} {out : List ℕ} → Printed text (outputFor q (length plan) text) n out
+    → (n ≡ min (length (output input (length plan) text)) (length text)) × ((out ≡ sets text 0 (output input (length plan) text)) × (left ≡ planAfter input plan))
+told q plan left p input text r w = (
+  w .counted ∙ ap (λ (x : Request). min (length (outputFor x (length plan) text)) (length text)) r,
+  (
+    w .text ∙ ap (λ (x : Request). sets text 0 (outputFor x (length plan) text)) r,
+    p ∙ ap (λ (x : Request). lent (lowest (cyclicRules x (length plan))) (sets plan 0 (cyclicPlan x)) plan) r,
+  ),
+)

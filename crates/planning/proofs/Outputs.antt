@@ -16,7 +16,8 @@ use Rattle.lines.specs.Alist.{linesIn}
 use Rattle.lines.specs.Text.{item, lineFrom, textOf}
 use Rattle.alist.specs.Calls.{alistText, writeRules}
 use Rattle.planning.specs.Request.{valueFrom, numberOf, requestIn, requestOf}
-use Rattle.planning.specs.Output.{rowsOf, colsOf, cyclicRules, cyclicPlan, refusedLine, printed, outputFor, output}
+use Rattle.weights.specs.declared.Side.the-variants.{Bits, Checks}
+use Rattle.planning.specs.Output.{rowsOf, colsOf, cyclicRules, cyclicPlan, cyclicWeights, refusedLine, printed, outputFor, output}
 
 -- a line feed is the last byte
 pub record Ends (text : List ℕ) : Type 0 where
@@ -50,7 +51,7 @@ unfolding outputFor
 output-ends input room place =
     let q = requestOf input in
     printed-ends (lowest (cyclicRules q room)) _
-    (printed-ends (lowest (writeRules (cyclicPlan q) (rowsOf q) (colsOf q) (q .lift) place)) (alistText (cyclicPlan q) (rowsOf q) (colsOf q) (q .lift))
+    (printed-ends (lowest (writeRules (cyclicPlan q) (rowsOf q) (colsOf q) (q .lift) (cyclicWeights q Checks) (cyclicWeights q Bits) place)) (alistText (cyclicPlan q) (rowsOf q) (colsOf q) (q .lift))
     (alist-ends (cyclicPlan q) (rowsOf q) (colsOf q) (q .lift)))
 
 -- the input "4 6" prints "refused 10", whatever is lent

@@ -1,7 +1,7 @@
 -- Laws of the cyclic plan with the full mask: its refusals by what is lent, its place in the lent list, and that it passes at 12.
 -- Assumes nothing.
 use Prim.Native.Nat.{ℕ, zero, suc, _+_, _-_, _*_, _≤_, _<_, min}
-use mathlib.Core.Path.{_≡_, refl, sym, ap, subst, _∙_}
+use mathlib.Core.Path.{_≡_, refl, sym, ap, ap₂, subst, _∙_}
 use mathlib.Core.Bool.{Bool, true, false, cond, not}
 use mathlib.Core.List.{List, [], _∷_, _++_}
 use mathlib.Core.Option.{Option, none, some}
@@ -27,15 +27,19 @@ use Rattle.square.specs.Mask.{rowOnes, columnOnes, weighs, weight}
 use Rattle.square.proofs.Places.{square as product}
 use Rattle.grid.specs.Plan.{planRows, planCols}
 use Rattle.table.specs.declared.Built.the-variants.{Built}
-use Rattle.table.specs.Build.{lent, supplyRules, tableRules, buildRules, builtPlan, built}
+use Rattle.refusal.specs.Lent.{lent}
+use Rattle.weights.specs.declared.Side.{Side}
+use Rattle.weights.specs.declared.Room.{Room}
+use Rattle.weights.specs.Weights.{shapeOf, weightsOf, roomOf}
+use Rattle.table.specs.Build.{supplyRules, tableRules, buildRules, buildRefusal, builtPlan, builtWeights, built}
 use Rattle.table.proofs.Accepted.{taken}
 use Rattle.table.proofs.Plans.{GoodPlan, built-is-good}
 use Rattle.planning.specs.declared.request.Request.{Request}
-use Rattle.planning.specs.Output.{fullMask, rowsOf, colsOf, cyclicRules, cyclicPlan}
-use Rattle.planning.specs.Steps.{sideOf, tableIn}
+use Rattle.planning.specs.Output.{fullMask, rowsOf, colsOf, cyclicRules, cyclicPlan, cyclicWeights}
+use Rattle.planning.specs.Steps.{sideOf, tableIn, Lists}
 
 -- an order that is not allowed is refused, whatever is lent: 3 or 7
-pub order-refused : (order lift : ℕ) (table : List ℤ) (mask : List ℕ) (room : ℕ) → outside 4 7 order ≡ true
+pub order-refused : (order lift : ℕ) (table : List ℤ) (mask : List ℕ) (room : Room) → outside 4 7 order ≡ true
     → lowest (buildRules order lift table mask room) ≡ some (cond (outside 1 4096 lift) Lift Order)
 unfolding lowest buildRules tableRules
 order-refused order lift table mask room e = rw e (step (outside 1 4096 lift))
@@ -84,6 +88,10 @@ placed none new want plan room h =
     ap (λ (l : List ℤ). l ++ drop room plan) n ∙ sym (sets-eq want plan 0 (omega arith) ∙ ap (λ (m : ℕ). want ++ drop m plan) (sym z))
 placed (some r) new want plan room h = take-append-drop room plan
 
+either : {A : Type 0} (o : Option Refusal) (new want old : List A) → (o ≡ none → new ≡ want) → lent o new old ≡ lent o want old
+either none new want old h = h refl
+either (some r) new want old h = refl
+
 take-replicate : (k m a : ℕ) → k ≤ m → take k (replicate m a) ≡ replicate k a
 take-replicate zero m a h = refl
 take-replicate (suc k) zero a h = absurd (omega arith)
@@ -95,7 +103,7 @@ side-small order = by-bool (outside 4 7 order) (λ e. rw e (omega arith)) (λ e.
 
 -- what is lent to the builder: the parts of a list of 49 numbers, of 49 ones and of the plan, for the side n
 module _ (q : Request) (plan square : List ℤ) (n room : ℕ) (whole : length square ≡ 49) (s : n ≡ sideOf (q .order))
-    (r : room ≡ min (3 * (n * n) * (n * (n * n))) (length plan)) where
+    (r : room ≡ min (3 * (n * n) * (n * (n * n))) (length plan)) (byrow bycol : List ℕ) (lists : Lists n byrow bycol) where
   abbrev table : List ℤ
   table = tableIn (q .order) (take (n * n) square)
 
@@ -103,7 +111,7 @@ module _ (q : Request) (plan square : List ℤ) (n room : ℕ) (whole : length s
   mask = take (n * n) (replicate 49 1)
 
   abbrev refusal : Option Refusal
-  refusal = lowest (buildRules (q .order) (q .lift) table mask (length (take room plan)))
+  refusal = buildRefusal (q .order) (q .lift) table mask (take room plan) byrow bycol
 
   module _ (e : outside 4 7 (q .order) ≡ false) where
     side-is : n ≡ q .order
@@ -127,8 +135,17 @@ module _ (q : Request) (plan square : List ℤ) (n room : ℕ) (whole : length s
     mask-is : mask ≡ fullMask (q .order)
     mask-is = take-replicate (n * n) 49 1 small ∙ ap (λ (k : ℕ). replicate k 1) square-is
 
-    room-is : length (take room plan) ≡ min (rowsOf q * colsOf q) (length plan)
-    room-is = length-take-le room plan (omega arith) ∙ r ∙ ap (λ (k : ℕ). min (3 * (k * k) * (k * (k * k))) (length plan)) side-is
+    length-is : length (take room plan) ≡ min (rowsOf q * colsOf q) (length plan)
+    length-is = length-take-le room plan (omega arith) ∙ r ∙ ap (λ (k : ℕ). min (3 * (k * k) * (k * (k * k))) (length plan)) side-is
+
+    rows-is : length byrow ≡ rowsOf q
+    rows-is = lists .0 ∙ ap (λ (k : ℕ). 3 * (k * k)) side-is
+
+    cols-is : length bycol ≡ colsOf q
+    cols-is = lists .1 ∙ ap (λ (k : ℕ). k * (k * k)) side-is
+
+    room-is : roomOf (take room plan) byrow bycol ≡ record { plan = min (rowsOf q * colsOf q) (length plan); rows = rowsOf q; cols = colsOf q }
+    room-is = λ i. record { plan = length-is i; rows = rows-is i; cols = cols-is i }
 
   pub same-refusal : refusal ≡ lowest (cyclicRules q (length plan))
   unfolding cyclicRules
@@ -136,18 +153,20 @@ module _ (q : Request) (plan square : List ℤ) (n room : ℕ) (whole : length s
       by-bool (outside 4 7 (q .order))
       (λ e. order-refused (q .order) (q .lift) _ _ _ e ∙ sym (order-refused (q .order) (q .lift) _ _ _ e))
       (λ e.
-      ap (λ (t : List ℤ). lowest (buildRules (q .order) (q .lift) t mask (length (take room plan)))) (table-is e)
-      ∙ ap (λ (m : List ℕ). lowest (buildRules (q .order) (q .lift) (suppliedTable Cyclic (q .order)) m (length (take room plan)))) (mask-is e)
-      ∙ ap (λ (k : ℕ). lowest (buildRules (q .order) (q .lift) (suppliedTable Cyclic (q .order)) (fullMask (q .order)) k)) (room-is e))
+      ap (λ (t : List ℤ). lowest (buildRules (q .order) (q .lift) t mask (roomOf (take room plan) byrow bycol))) (table-is e)
+      ∙ ap (λ (m : List ℕ). lowest (buildRules (q .order) (q .lift) (suppliedTable Cyclic (q .order)) m (roomOf (take room plan) byrow bycol))) (mask-is e)
+      ∙ ap (λ (k : Room). lowest (buildRules (q .order) (q .lift) (suppliedTable Cyclic (q .order)) (fullMask (q .order)) k)) (room-is e))
 
   -- where nothing is refused, the order is allowed
   taken-order : refusal ≡ none → outside 4 7 (q .order) ≡ false
   taken-order e = let t = taken _ _ _ _ _ e .of-table in inside 4 7 (q .order) .1 (t .least-order, t .most-order)
 
+  weight-is : refusal ≡ none → weight (q .order) mask ≡ q .order
+  weight-is e = ap (weight (q .order)) (mask-is (taken-order e)) ∙ cyclic-weight q (length plan) (sym same-refusal ∙ e)
+
   pub lent-answer : built refusal (q .order) (weight (q .order) mask) ≡ built (lowest (cyclicRules q (length plan))) (q .order) (q .order)
   lent-answer =
-      answer refusal (q .order) (weight (q .order) mask)
-      (λ e. ap (weight (q .order)) (mask-is (taken-order e)) ∙ cyclic-weight q (length plan) (sym same-refusal ∙ e))
+      answer refusal (q .order) (weight (q .order) mask) weight-is
       ∙ ap (λ (o : Option Refusal). built o (q .order) (q .order)) same-refusal
 
   same-plan : outside 4 7 (q .order) ≡ false → builtPlan (q .order) (q .lift) table mask ≡ cyclicPlan q
@@ -162,5 +181,12 @@ module _ (q : Request) (plan square : List ℤ) (n room : ℕ) (whole : length s
       placed refusal (builtPlan (q .order) (q .lift) table mask) (cyclicPlan q) plan room (λ e.
       let o = taken-order e in
       let k : room ≤ length plan = omega arith in
-      (same-plan o, sym (length-take-le room plan k) ∙ room-is o ∙ cyclic-fits q (length plan) (sym same-refusal ∙ e) .0, k))
+      (same-plan o, sym (length-take-le room plan k) ∙ length-is o ∙ cyclic-fits q (length plan) (sym same-refusal ∙ e) .0, k))
       ∙ ap (λ (o : Option Refusal). lent o (sets plan 0 (cyclicPlan q)) plan) same-refusal
+
+  pub lent-weights : (side : Side) (old : List ℕ) → lent refusal (builtWeights (q .order) (q .lift) table mask side) old ≡ lent (lowest (cyclicRules q (length plan))) (cyclicWeights q side) old
+  unfolding builtWeights cyclicWeights
+  lent-weights side old =
+      either refusal (builtWeights (q .order) (q .lift) table mask side) (cyclicWeights q side) old
+      (λ e. ap₂ (λ (p : List ℤ) (L : ℕ). weightsOf p (shapeOf (planRows (q .order) L) (planCols (q .order) L) (q .lift)) side) (same-plan (taken-order e)) (weight-is e))
+      ∙ ap (λ (o : Option Refusal). lent o (cyclicWeights q side) old) same-refusal

@@ -28,7 +28,8 @@ use Rattle.girth.proofs.Rules.{not-refused}
 use Rattle.decimal.specs.Decimal.{decimal}
 use Rattle.decimal.proofs.Digits.{length-small, length-below}
 use Rattle.alist.specs.declared.Written.the-variants as answer
-use Rattle.alist.specs.Calls.{alistText, roomRules, writeRules, written, laid}
+use Rattle.weights.specs.Weights.{shapeOf}
+use Rattle.alist.specs.Calls.{alistText, placeRules, writeRules, written, laid}
 use Rattle.planning.specs.Output.{refusedLine, printed}
 use Rattle.planning.specs.Steps.{Printed}
 
@@ -53,9 +54,9 @@ pub part-printed : (count room n : ℕ) (after : List ℕ) → n ≡ min count r
 part-printed count room n after e k = sym (length-take-le n after (omega arith))
 
 -- by the answer a of `write`, which left the text `after`
-module _ (plan : List ℤ) (rows cols lift : ℕ) (before after : List ℕ) where
+module _ (plan : List ℤ) (rows cols lift : ℕ) (byrow bycol before after : List ℕ) where
   abbrev rules : Option Refusal
-  rules = lowest (writeRules plan rows cols lift before)
+  rules = lowest (writeRules plan rows cols lift byrow bycol before)
 
   abbrev whole : List ℕ
   whole = alistText plan rows cols lift
@@ -63,8 +64,9 @@ module _ (plan : List ℤ) (rows cols lift : ℕ) (before after : List ℕ) wher
   room-enough : rules ≡ none → length whole ≤ length before
   unfolding writeRules
   room-enough e =
-      let (p, r) = none-append (planRules plan rows cols lift) (roomRules whole before) .0 e in
-      ltb-false (length before) (length whole) (none-holds (roomRules whole before) .0 r .0)
+      let more = placeRules plan (shapeOf rows cols lift) byrow bycol before in
+      let (p, r) = none-append (planRules plan rows cols lift) more .0 e in
+      ltb-false (length before) (length whole) (none-holds more .0 r .0)
 
   written-none : (o : Option Refusal) (k n : ℕ) → answer.Written n ≡ written k o → (o ≡ none) × (n ≡ k)
   written-none none k n e = (refl, cc)

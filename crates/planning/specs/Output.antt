@@ -11,7 +11,11 @@ use Rattle.refusal.specs.Lowest.{Rule, lowest}
 use Rattle.square.specs.declared.supply.Family.the-variants.{Cyclic}
 use Rattle.square.specs.Table.{suppliedTable}
 use Rattle.grid.specs.Plan.{planRows, planCols}
-use Rattle.table.specs.Build.{lent, buildRules, builtPlan}
+use Rattle.refusal.specs.Lent.{lent}
+use Rattle.weights.specs.declared.Side.{Side}
+use Rattle.weights.specs.declared.Side.the-variants.{Bits, Checks}
+use Rattle.weights.specs.Weights.{shapeOf, weightsOf}
+use Rattle.table.specs.Build.{buildRules, builtPlan}
 use Rattle.decimal.specs.Decimal.{decimal}
 use Rattle.alist.specs.Calls.{alistText, writeRules}
 use Rattle.planning.specs.declared.request.Request.{Request}
@@ -28,12 +32,18 @@ rowsOf q = planRows (q .order) (q .order)
 abbrev pub colsOf : Request → ℕ
 colsOf q = planCols (q .order) (q .order)
 
--- the plan is built in what J needs of a lent place, or in the whole where that is shorter
+-- the plan is built in what J needs of a lent place, or in the whole where that is shorter, and its weights in lists of their own
 unfoldable pub cyclicRules : Request → ℕ → List Rule
-cyclicRules q room = buildRules (q .order) (q .lift) (suppliedTable Cyclic (q .order)) (fullMask (q .order)) (min (rowsOf q * colsOf q) room)
+cyclicRules q room =
+    buildRules (q .order) (q .lift) (suppliedTable Cyclic (q .order)) (fullMask (q .order))
+    (record { plan = min (rowsOf q * colsOf q) room; rows = rowsOf q; cols = colsOf q })
 
 unfoldable pub cyclicPlan : Request → List ℤ
 cyclicPlan q = builtPlan (q .order) (q .lift) (suppliedTable Cyclic (q .order)) (fullMask (q .order))
+
+-- its weights
+unfoldable pub cyclicWeights : Request → Side → List ℕ
+cyclicWeights q side = weightsOf (cyclicPlan q) (shapeOf (rowsOf q) (colsOf q) (q .lift)) side
 
 -- "refused ", the refusal's number, and a line feed
 unfoldable pub refusedLine : Refusal → List ℕ
@@ -49,7 +59,8 @@ printed (some r) text = refusedLine r
 unfoldable pub outputFor : Request → ℕ → List ℕ → List ℕ
 outputFor q room place =
     printed (lowest (cyclicRules q room))
-    (printed (lowest (writeRules (cyclicPlan q) (rowsOf q) (colsOf q) (q .lift) place)) (alistText (cyclicPlan q) (rowsOf q) (colsOf q) (q .lift)))
+    (printed (lowest (writeRules (cyclicPlan q) (rowsOf q) (colsOf q) (q .lift) (cyclicWeights q Checks) (cyclicWeights q Bits) place))
+    (alistText (cyclicPlan q) (rowsOf q) (colsOf q) (q .lift)))
 
 abbrev pub output : List ℕ → ℕ → List ℕ → List ℕ
 output input room place = outputFor (requestOf input) room place

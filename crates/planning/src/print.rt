@@ -40,11 +40,19 @@ pub fn refused(r: Refusal, text: &mut [u8]) -> usize
 }
 
 // Prints the alist of a plan, or the line of the refusal.
-fn write(plan: &[i16], rows: usize, cols: usize, lift: usize, text: &mut [u8]) -> usize
-    ensures { λ n. ⌜ Printed (now (text .entry)) (printed (lowest (writeRules (now (plan .entry)) rows cols lift (now (text .entry))))
+fn write(
+    plan: &[i16],
+    rows: usize,
+    cols: usize,
+    lift: usize,
+    byrow: &[u16],
+    bycol: &[u16],
+    text: &mut [u8],
+) -> usize
+    ensures { λ n. ⌜ Printed (now (text .entry)) (printed (lowest (writeRules (now (plan .entry)) rows cols lift (now (byrow .entry)) (now (bycol .entry)) (now (text .entry))))
         (alistText (now (plan .entry)) rows cols lift)) n (now (text .exit)) ⌝ }
 {
-    match alist::write(plan, rows, cols, lift, text) {
+    match alist::write(plan, rows, cols, lift, byrow, bycol, text) {
         Written::Written(n) => n,
         Written::Refused(r) => refused(r, text),
     }
@@ -52,15 +60,23 @@ fn write(plan: &[i16], rows: usize, cols: usize, lift: usize, text: &mut [u8]) -
 
 // Judges a built plan at 12, and prints its alist. Every built plan passes (`built-is-good` of crate table), so the last two
 // arms are never taken.
-pub fn judged(plan: &[i16], rows: usize, cols: usize, lift: usize, text: &mut [u8]) -> usize
+pub fn judged(
+    plan: &[i16],
+    rows: usize,
+    cols: usize,
+    lift: usize,
+    byrow: &[u16],
+    bycol: &[u16],
+    text: &mut [u8],
+) -> usize
     requires { ⌜ WellFormed (now plan) rows cols lift × Passes (tanner (now plan) rows cols lift) 12 ⌝ }
-    ensures { λ n. ⌜ Printed (now (text .entry)) (printed (lowest (writeRules (now (plan .entry)) rows cols lift (now (text .entry))))
+    ensures { λ n. ⌜ Printed (now (text .entry)) (printed (lowest (writeRules (now (plan .entry)) rows cols lift (now (byrow .entry)) (now (bycol .entry)) (now (text .entry))))
         (alistText (now (plan .entry)) rows cols lift)) n (now (text .exit)) ⌝ }
 {
     let t = girth::test(plan, rows, cols, lift, 12);
     let outcome = t.outcome;
     match outcome {
-        Outcome::Passed => write(plan, rows, cols, lift, text),
+        Outcome::Passed => write(plan, rows, cols, lift, byrow, bycol, text),
         Outcome::Failed => 0,
         Outcome::Refused(_) => 0,
     }

@@ -1,12 +1,14 @@
 pub mod Two
 pub mod Matching
 pub mod PlanRows
+pub mod WeightRows
 pub mod TableRows
 pub mod WordRows
 pub mod Tokens
 pub mod TextRows
 pub mod Texts
 pub mod SteinerRows
+pub mod ChangeRows
 pub mod One
 pub mod Three
 pub mod Table
@@ -15,3 +17,4 @@ pub mod Cases
 pub mod Counts
 pub mod Remainders
 pub mod Preview
+pub mod Changes

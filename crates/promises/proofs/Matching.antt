@@ -98,7 +98,7 @@ module _ (rules : List Rule) (rise : rising rules ≡ true) (Applies : ℕ → L
 in-more-rules : (rules more : List Rule) → ((rule : Rule) → In rule rules → In rule more) → (n : ℕ) (l : List ℕ) → Listed rules n l → Listed more n l
 in-more-rules rules more f n l t = record { refusal = t .refusal; stands = f (refuse (t .refusal) true) (t .stands); number-is = t .number-is; values-are = t .values-are }
 
-in-more-rows : (A B : ℕ → List ℕ → Type 0) → ((n : ℕ) (l : List ℕ) → A n l → B n l) → (s : Refusal) → RowOrLower A s → RowOrLower B s
+pub in-more-rows : (A B : ℕ → List ℕ → Type 0) → ((n : ℕ) (l : List ℕ) → A n l → B n l) → (s : Refusal) → RowOrLower A s → RowOrLower B s
 in-more-rows A B f s (inl a) = inl (f (number s) (values s) a)
 in-more-rows A B f s (inr o) = inr (record { other = o .other; its-values = o .its-values; applies = f (o .other) (o .its-values) (o .applies); lower = o .lower })
 

@@ -25,19 +25,26 @@ use Rattle.peeling.specs.Fill as filler
 use Rattle.peeling.proofs.Rules as fill-rules
 use Rattle.square.specs.Table.{suppliedTable}
 use Rattle.square.specs.Mask.{weight}
-use Rattle.table.specs.Build.{lent, supplyRules, supplied, buildRules, builtPlan, built}
+use Rattle.refusal.specs.Lent.{lent}
+use Rattle.weights.specs.declared.Side.the-variants.{Bits, Checks}
+use Rattle.weights.specs.Weights.{roomOf}
+use Rattle.weights.specs.Change.{changeRules, changed, Held, Call, refusalOf}
+use Rattle.weights.proofs.Rules.{change-rise}
+use Rattle.weights.proofs.Changes.{stays}
+use Rattle.table.specs.Build.{supplyRules, supplied, buildRefusal, builtPlan, builtWeights, built}
 use Rattle.table.proofs.Plans as table-rules
 use Rattle.steiner.specs.Build as steiner-build
 use Rattle.steiner.proofs.Plans as steiner-rules
 use Rattle.alist.specs.Calls.{alistText, writeRules, written, laid, comparison}
 use Rattle.alist.proofs.Answers as text-rules
 use Rattle.promises.specs.TurnedAway.{LowestOf}
-use Rattle.promises.specs.One.{ofValidity, ofOutcome, ofSyndrome, ofFilling, ofSupplied, ofBuilt, ofWritten, ofComparison, Unchanged, Promise-1}
+use Rattle.promises.specs.One.{ofValidity, ofOutcome, ofSyndrome, ofFilling, ofSupplied, ofBuilt, ofWritten, ofComparison, ofChanged, Unchanged, Promise-1}
 use Rattle.promises.proofs.Matching.{Matches, lowest-of}
 use Rattle.promises.proofs.PlanRows.{plan-matches, test-matches}
 use Rattle.promises.proofs.WordRows.{check-matches, fill-matches}
 use Rattle.promises.proofs.TableRows.{supply-matches, build-matches}
 use Rattle.promises.proofs.SteinerRows.{steiner-matches}
+use Rattle.promises.proofs.ChangeRows.{change-matches}
 use Rattle.promises.proofs.TextRows.{write-matches, compare-matches}
 
 -- an answer carries the refusal that it was made from
@@ -77,6 +84,10 @@ in-comparison : (o : Option Refusal) → ofComparison (comparison o) ≡ o
 in-comparison none = refl
 in-comparison (some r) = refl
 
+in-changed : (o : Option Refusal) → ofChanged (changed o) ≡ o
+in-changed none = refl
+in-changed (some r) = refl
+
 -- a refusal leaves what was lent
 kept : {A : Type 0} (leaves : Option Refusal → List A) (before : List A) → ((r : Refusal) → leaves (some r) ≡ before)
     → (o answer : Option Refusal) → answer ≡ o → Unchanged answer before (leaves o)
@@ -103,6 +114,10 @@ word-kept : (plan : List ℤ) (rows cols lift : ℕ) (word : List ℕ) → Uncha
 unfolding fillWord
 word-kept plan rows cols lift word = kept (λ o. leave o word (filledWord (tanner plan rows cols lift) word)) word (λ r. refl) _ _ (filled plan rows cols lift word)
 
+changing : (c : Call) (h : Held) → ofChanged (changed (refusalOf c h)) ≡ lowest (changeRules (h .plan) (c .shape) (c .at) (c .entry) (h .rows) (h .cols))
+unfolding refusalOf
+changing c h = in-changed _
+
 -- THE PROMISE
 pub promise-1 : Promise-1
 promise-1 =
@@ -120,18 +135,33 @@ promise-1 =
         answered _ _ _ (table-rules.supply-rules-rise order (length table)) (supply-matches order (length table)) (in-supplied _),
         kept (λ o. lent o (suppliedTable family order) table) table (λ r. refl) _ _ (in-supplied (lowest (supplyRules order (length table)))),
       );
-      build = λ order lift table mask plan. (
-        answered _ _ _ (table-rules.rules-rise order lift table mask (length plan)) (build-matches order lift table mask (length plan)) (in-built _ _ _),
-        kept (λ o. lent o (builtPlan order lift table mask) plan) plan (λ r. refl) _ _ (in-built (lowest (buildRules order lift table mask (length plan))) order (weight order mask)),
+      build = λ order lift table mask plan byrow bycol.
+          let o = buildRefusal order lift table mask plan byrow bycol in
+          let e = in-built o order (weight order mask) in (
+            answered _ _ _ (table-rules.rules-rise order lift table mask (roomOf plan byrow bycol)) (build-matches order lift table mask (roomOf plan byrow bycol)) e,
+            kept (λ o. lent o (builtPlan order lift table mask) plan) plan (λ r. refl) o _ e,
+            kept (λ o. lent o (builtWeights order lift table mask Checks) byrow) byrow (λ r. refl) o _ e,
+            kept (λ o. lent o (builtWeights order lift table mask Bits) bycol) bycol (λ r. refl) o _ e,
+          );
+      steiner = λ order lift voltages plan byrow bycol.
+          let o = steiner-build.buildRefusal order lift voltages plan byrow bycol in
+          let e = in-steiner o order in (
+            answered _ _ _ (steiner-rules.rules-rise order lift voltages (roomOf plan byrow bycol)) (steiner-matches order lift voltages (roomOf plan byrow bycol)) e,
+            kept (λ o. lent o (steiner-build.steinerPlan order lift voltages) plan) plan (λ r. refl) o _ e,
+            kept (λ o. lent o (steiner-build.steinerWeights order lift voltages Checks) byrow) byrow (λ r. refl) o _ e,
+            kept (λ o. lent o (steiner-build.steinerWeights order lift voltages Bits) bycol) bycol (λ r. refl) o _ e,
+          );
+      change = λ c h. (
+        answered _ _ _ (change-rise (h .plan) (c .shape) (c .at) (c .entry) (h .rows) (h .cols)) (change-matches (h .plan) (c .shape) (c .at) (c .entry) (h .rows) (h .cols)) (changing c h),
+        λ r e. ap (λ (g : Held). g .plan) (stays c h r (sym (in-changed (refusalOf c h)) ∙ e)),
+        λ r e. ap (λ (g : Held). g .rows) (stays c h r (sym (in-changed (refusalOf c h)) ∙ e)),
+        λ r e. ap (λ (g : Held). g .cols) (stays c h r (sym (in-changed (refusalOf c h)) ∙ e)),
       );
-      steiner = λ order lift voltages plan. (
-        answered _ _ _ (steiner-rules.rules-rise order lift voltages (length plan)) (steiner-matches order lift voltages (length plan)) (in-steiner _ _),
-        kept (λ o. lent o (steiner-build.steinerPlan order lift voltages) plan) plan (λ r. refl) _ _
-            (in-steiner (lowest (steiner-build.buildRules order lift voltages (length plan))) order),
+      write = λ plan rows cols lift byrow bycol place. (
+        answered _ _ _ (text-rules.write-rise plan rows cols lift byrow bycol place) (write-matches plan rows cols lift byrow bycol place) (in-written _ _),
+        kept (λ o. laid o (alistText plan rows cols lift) place) place (λ r. refl) _ _
+            (in-written (length (alistText plan rows cols lift)) (lowest (writeRules plan rows cols lift byrow bycol place))),
       );
-      write = λ plan rows cols lift place. (
-        answered _ _ _ (text-rules.write-rise plan rows cols lift place) (write-matches plan rows cols lift place) (in-written _ _),
-        kept (λ o. laid o (alistText plan rows cols lift) place) place (λ r. refl) _ _ (in-written (length (alistText plan rows cols lift)) (lowest (writeRules plan rows cols lift place))),
-      );
-      compare = λ plan rows cols lift text. answered _ _ _ (text-rules.compare-rise plan rows cols lift text) (compare-matches plan rows cols lift text) (in-comparison _);
+      compare = λ plan rows cols lift byrow bycol text.
+          answered _ _ _ (text-rules.compare-rise plan rows cols lift byrow bycol text) (compare-matches plan rows cols lift byrow bycol text) (in-comparison _);
     }

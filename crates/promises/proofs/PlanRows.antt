@@ -27,7 +27,7 @@ pub differs : (m n : ℕ) → (not (eqb m n) ≡ true) ↔ (m ≢ n)
 differs m n = (λ e q. eqb-false m n (not-true (eqb m n) e) q, λ h. ap not (ne-eqb m n h))
 
 -- an entry is found invalid exactly where it is below −1, whatever the lift
-invalid-exactly : (lift : ℕ) (z : ℤ) → (invalidEntry lift z ≡ true) ↔ BelowMinusOne z
+pub invalid-exactly : (lift : ℕ) (z : ℤ) → (invalidEntry lift z ≡ true) ↔ BelowMinusOne z
 invalid-exactly lift z = (is-invalid z, found)
   where
     is-invalid : (z : ℤ) → invalidEntry lift z ≡ true → BelowMinusOne z

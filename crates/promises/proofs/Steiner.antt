@@ -5,16 +5,17 @@ use mathlib.Core.List.{List}
 use mathlib.Core.Option.{Option, none, some}
 use native.Mathlib.Omega.{arith}
 use lib.IntN.{ℤ}
-use lib.ListN.{length}
 use Rattle.refusal.specs.declared.Refusal.{Refusal}
 use Rattle.refusal.specs.Lowest.{lowest}
 use Rattle.graph.specs.Count.{member}
 use Rattle.girth.specs.Test.{allowed}
 use Rattle.girth.proofs.Rules.{not-refused as test-accepted}
 use Rattle.table.specs.declared.Built.the-variants.{Built}
-use Rattle.table.specs.Build.{lent}
+use Rattle.refusal.specs.Lent.{lent}
+use Rattle.weights.specs.declared.Room.{Room}
+use Rattle.weights.specs.Weights.{roomOf}
 use Rattle.steiner.specs.System as system
-use Rattle.steiner.specs.Build.{buildRules, steinerPlan, built}
+use Rattle.steiner.specs.Build.{buildRules, buildRefusal, steinerPlan, built}
 use Rattle.steiner.proofs.Listed.{the-list}
 use Rattle.steiner.proofs.Pairs.{pairs-once}
 use Rattle.steiner.proofs.Plans.{built-plan}
@@ -23,7 +24,7 @@ use Rattle.promises.specs.Steiner.{SteinerPlan, SteinerPlans, SteinerTri
 use Rattle.promises.proofs.Two.{verdict}
 use Rattle.promises.proofs.Three.{recovered}
 
-steiner-plan : (order lift : ℕ) (voltages : List ℤ) (room : ℕ) → lowest (buildRules order lift voltages room) ≡ none
+steiner-plan : (order lift : ℕ) (voltages : List ℤ) (room : Room) → lowest (buildRules order lift voltages room) ≡ none
     → SteinerPlan order lift voltages (steinerPlan order lift voltages) order (system.cols order)
 unfolding allowed member
 steiner-plan order lift voltages room e =
@@ -37,14 +38,14 @@ steiner-plan order lift voltages room e =
     }
 
 steiner-plans : SteinerPlans
-steiner-plans order lift voltages place rows cols = go (lowest (buildRules order lift voltages (length place))) refl
+steiner-plans order lift voltages place byrow bycol rows cols = go (buildRefusal order lift voltages place byrow bycol) refl
   where
-    go : (o : Option Refusal) → lowest (buildRules order lift voltages (length place)) ≡ o → built o order ≡ Built rows cols
+    go : (o : Option Refusal) → buildRefusal order lift voltages place byrow bycol ≡ o → built o order ≡ Built rows cols
         → SteinerPlan order lift voltages (lent o (steinerPlan order lift voltages) place) rows cols
     go none q e =
         let r : order ≡ rows = cc in
         let c : system.cols order ≡ cols = cc in
-        subst₂ (SteinerPlan order lift voltages (steinerPlan order lift voltages)) r c (steiner-plan order lift voltages (length place) q)
+        subst₂ (SteinerPlan order lift voltages (steinerPlan order lift voltages)) r c (steiner-plan order lift voltages (roomOf place byrow bycol) q)
     go (some x) q e = absurd (let z : _≡_ {A = ℕ} 0 1 = cc in omega arith)
 
 pub steiner-triples : SteinerTriples

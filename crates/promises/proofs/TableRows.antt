@@ -1,17 +1,17 @@
--- Rows 3, 7 to 13 and 15, of tables and masks: the tests of the table calls say what the rows say. The tests of 13 and 15 take a weight
+-- Rows 3, 7 to 13, 15 and 25, of tables and masks: the tests of the table calls say what the rows say. The tests of 13, 15 and 25 take a weight
 -- from the mask in any case; where there is no common one, 12 applies. Assumes nothing.
 use Prim.Native.Nat.{ℕ, _*_, _<_}
 use mathlib.Core.Path.{_≡_, refl, sym, ap, subst, _∙_}
 use mathlib.Core.Logic.{_↔_, _⊎_, inl, inr, _≢_}
-use mathlib.Core.Bool.{true, not, _||_}
+use mathlib.Core.Bool.{true, not, _||_, _&&_}
 use mathlib.Core.List.{List, [], _∷_}
 use native.Mathlib.Omega.{arith}
-use borrow.Author.Tests.{ltb-true, lt-ltb}
+use borrow.Author.Tests.{ltb-true, lt-ltb, eqb-false, ne-eqb, not-true}
 use lib.Dec.{ltb, eqb}
 use lib.IntN.{ℤ, pos, negsuc}
 use lib.ListN.{length, getD, List·getD-eq-default}
 use Rattle.refusal.specs.declared.Refusal.{Refusal}
-use Rattle.refusal.specs.declared.Refusal.the-variants.{Lift, Order, TableLength, NegativeEntry, MaskByte, MaskWeight, TableBits, PlanPlace}
+use Rattle.refusal.specs.declared.Refusal.the-variants.{Lift, Order, TableLength, NegativeEntry, MaskByte, MaskWeight, TableBits, PlanPlace, Weights}
 use Rattle.refusal.specs.Number.{number, values}
 use Rattle.refusal.specs.Lowest.{refuse, In}
 use Rattle.refusal.specs.Place.{First, firstPlace, somewhere}
@@ -20,13 +20,14 @@ use Rattle.graph.proofs.Decide.{by-bool, by-le, both-ways}
 use Rattle.exponent.specs.Limits.{outside}
 use Rattle.exponent.proofs.Rules.{outside-exactly}
 use Rattle.square.specs.declared.search.Quad.{Quad}
+use Rattle.weights.specs.declared.Room.{Room}
 use Rattle.square.specs.Table.{tableAt, negative, unsound, firstRepeat}
 use Rattle.square.specs.Mask.{common, weight, Common}
 use Rattle.square.proofs.Repeats as repeats
 use Rattle.square.proofs.Weights.{weight-common, no-weight-exactly, weight-first, weight-is}
 use Rattle.grid.specs.Plan.{planRows, planCols}
 use Rattle.table.specs.Build.{supplyRules, unsoundAt, tableRules, maskRules, buildRules}
-use Rattle.promises.specs.TurnedAway.{LiftRow, row-3, SquareRow, row-7, row-8, IsNegative, TableRow, row-9, row-10, MaskRow, row-11, row-12, row-13, PlaceRow, row-15, _or_}
+use Rattle.promises.specs.TurnedAway.{LiftRow, row-3, SquareRow, row-7, row-8, IsNegative, TableRow, row-9, row-10, MaskRow, row-11, row-12, row-13, PlaceRow, row-15, table-lists, _or_}
 use Rattle.promises.specs.TurnedAway as away
 use Rattle.promises.proofs.Matching.{Listed, RowOf, RowOrLower, Matches, join, by-rule, no-rule, at-rule, further}
 use Rattle.promises.proofs.PlanRows.{differs}
@@ -103,8 +104,21 @@ module _ (order lift : ℕ) (table : List ℤ) where
   table-matches : Matches (tableRules order lift table) (LiftRow lift or SquareRow order (length table) or TableRow order lift table)
   table-matches = record { listed = table-listed; applies = table-applies }
 
--- 11 TO 13 AND 15
-module _ (order lift : ℕ) (mask : List ℕ) (room : ℕ) where
+-- 25 of a builder: one of the two lists has another length
+pub lists-exactly : (room : Room) (rows cols : ℕ) → (not (eqb (room .rows) rows && eqb (room .cols) cols) ≡ true) ↔ ((room .rows ≢ rows) ⊎ (room .cols ≢ cols))
+lists-exactly room rows cols = (
+  λ e. by-bool (eqb (room .rows) rows)
+      (λ p. inr (eqb-false (room .cols) cols (not-true (eqb (room .cols) cols) (rw p at e))))
+      (λ p. inl (eqb-false (room .rows) rows p)),
+  found,
+)
+  where
+    found : (room .rows ≢ rows) ⊎ (room .cols ≢ cols) → not (eqb (room .rows) rows && eqb (room .cols) cols) ≡ true
+    found (inl h) = rw (ne-eqb (room .rows) rows h)
+    found (inr h) = by-bool (eqb (room .rows) rows) (λ p. rw (p, ne-eqb (room .cols) cols h)) (λ p. rw p)
+
+-- 11 TO 13, 15 AND 25
+module _ (order lift : ℕ) (mask : List ℕ) (room : Room) where
   abbrev Masked : ℕ → List ℕ → Type 0
   Masked = MaskRow order lift mask or PlaceRow order mask room
 
@@ -152,7 +166,9 @@ module _ (order lift : ℕ) (mask : List ℕ) (room : ℕ) where
       by-rule C MaskByte (not (eqb (length mask) (order * order)) || somewhere (ltb 1) mask) _ s i (λ e. inl (inl (row-11 (mask-exactly .0 e)))) λ i.
       by-rule C MaskWeight (not (common order mask)) _ s i (λ e. inl (inl (row-12 (no-weight-exactly order mask .0 e)))) λ i.
       by-rule C TableBits (ltb 65536 (planCols order L * lift)) _ s i (λ e. by-weight TableBits (omega arith) (λ w. inl (row-13 L w (ltb-true _ _ e)))) λ i.
-      by-rule C PlanPlace (not (eqb room (planRows order L * planCols order L))) [] s i (λ e. by-weight PlanPlace (omega arith) (λ w. inr (row-15 L w (differs _ _ .0 e)))) λ i.
+      by-rule C PlanPlace (not (eqb (room .plan) (planRows order L * planCols order L))) _ s i (λ e. by-weight PlanPlace (omega arith) (λ w. inr (row-15 L w (differs _ _ .0 e)))) λ i.
+      by-rule C Weights (not (eqb (room .rows) (planRows order L) && eqb (room .cols) (planCols order L))) [] s i
+      (λ e. by-weight Weights (omega arith) (λ w. inr (table-lists L w (lists-exactly room _ _ .0 e)))) λ i.
       no-rule C s i
 
   mask-applies : (n : ℕ) (l : List ℕ) → Masked n l → Listed (maskRules order lift mask room) n l
@@ -162,12 +178,15 @@ module _ (order lift : ℕ) (mask : List ℕ) (room : ℕ) where
   mask-applies n l (inl (row-13 L w h)) =
       further (further (at-rule _ _ refl refl (lt-ltb _ _ (subst (λ (L : ℕ). 65536 < planCols order L * lift) (weight-of L w) h))))
   mask-applies n l (inr (row-15 L w h)) =
-      further (further (further (at-rule _ _ refl refl (differs _ _ .1 (subst (λ (L : ℕ). room ≢ planRows order L * planCols order L) (weight-of L w) h)))))
+      further (further (further (at-rule _ _ refl refl (differs _ _ .1 (subst (λ (L : ℕ). room .plan ≢ planRows order L * planCols order L) (weight-of L w) h)))))
+  mask-applies n l (inr (table-lists L w h)) =
+      let k = subst (λ (L : ℕ). (room .rows ≢ planRows order L) ⊎ (room .cols ≢ planCols order L)) (weight-of L w) h in
+      further (further (further (further (at-rule _ _ refl refl (lists-exactly room _ _ .1 k)))))
 
   mask-matches : Matches (maskRules order lift mask room) (MaskRow order lift mask or PlaceRow order mask room)
   mask-matches = record { listed = mask-listed; applies = mask-applies }
 
-pub build-matches : (order lift : ℕ) (table : List ℤ) (mask : List ℕ) (room : ℕ)
+pub build-matches : (order lift : ℕ) (table : List ℤ) (mask : List ℕ) (room : Room)
     → Matches (buildRules order lift table mask room)
     (LiftRow lift or SquareRow order (length table) or TableRow order lift table or (MaskRow order lift mask or PlaceRow order mask room))
 unfolding buildRules

@@ -14,16 +14,18 @@ use Rattle.graph.specs.Graph.{Bipartite}
 use Rattle.graph.proofs.Decide.{both-ways}
 use Rattle.exponent.specs.Limits.{planRules}
 use Rattle.exponent.specs.Tanner.{tanner}
+use Rattle.weights.specs.Weights.{shapeOf, weightRules}
 use Rattle.tokens.specs.declared.Form.{Form}
 use Rattle.tokens.specs.declared.Form.the-variants.{Padded, Unpadded}
 use Rattle.lines.specs.Alist.{linesIn}
 use Rattle.lines.specs.Text.{itemsOf}
 use Rattle.comparer.specs.Verdict.{departsIn, departs}
 use Rattle.comparer.proofs.Forms.{later-place, place-later}
-use Rattle.alist.specs.Calls.{alistText, roomRules, writeRules, placeOf, tokenRules, compareRules}
-use Rattle.promises.specs.TurnedAway.{PlanRow, RoomRow, row-17, DepartsAt, TokenRow, row-21, _or_}
+use Rattle.alist.specs.Calls.{alistText, roomRules, placeRules, writeRules, placeOf, tokenRules, textRules, compareRules}
+use Rattle.promises.specs.TurnedAway.{PlanRow, RoomRow, row-17, DepartsAt, TokenRow, row-21, WeightRow, _or_}
 use Rattle.promises.proofs.Matching.{Listed, Matches, join, at-rule, one-rule}
 use Rattle.promises.proofs.PlanRows.{plan-matches}
+use Rattle.promises.proofs.WeightRows.{weight-matches}
 use Rattle.promises.proofs.Tokens.{found-wrong, wrong-found}
 
 -- 17
@@ -62,11 +64,19 @@ token-matches text G = one-rule (Token (placeOf (departs text G))) _ (TokenRow t
         at-rule _ _ refl (ap (λ (o : Option ℕ). placeOf o ∷ []) e) (ap isSome e)
 
 -- THE CALLS
-module _ (plan : List ℤ) (rows cols lift : ℕ) where
-  pub write-matches : (place : List ℕ) → Matches (writeRules plan rows cols lift place) (PlanRow plan rows cols lift or RoomRow (alistText plan rows cols lift) place)
+module _ (plan : List ℤ) (rows cols lift : ℕ) (byrow bycol : List ℕ) where
+  pub write-matches : (place : List ℕ) → Matches (writeRules plan rows cols lift byrow bycol place)
+      (PlanRow plan rows cols lift or (RoomRow (alistText plan rows cols lift) place or WeightRow plan rows cols lift byrow bycol))
   unfolding writeRules
-  write-matches place = join (planRules plan rows cols lift) _ _ _ (plan-matches plan rows cols lift) (room-matches (alistText plan rows cols lift) place)
+  write-matches place =
+      let s = shapeOf rows cols lift in
+      join (planRules plan rows cols lift) (placeRules plan s byrow bycol place) _ _ (plan-matches plan rows cols lift)
+      (join (roomRules (alistText plan rows cols lift) place) (weightRules plan s byrow bycol) _ _ (room-matches (alistText plan rows cols lift) place) (weight-matches plan s byrow bycol))
 
-  pub compare-matches : (text : List ℕ) → Matches (compareRules plan rows cols lift text) (PlanRow plan rows cols lift or TokenRow text (tanner plan rows cols lift))
+  pub compare-matches : (text : List ℕ) → Matches (compareRules plan rows cols lift byrow bycol text)
+      (PlanRow plan rows cols lift or (TokenRow text (tanner plan rows cols lift) or WeightRow plan rows cols lift byrow bycol))
   unfolding compareRules
-  compare-matches text = join (planRules plan rows cols lift) _ _ _ (plan-matches plan rows cols lift) (token-matches text (tanner plan rows cols lift))
+  compare-matches text =
+      let s = shapeOf rows cols lift in
+      join (planRules plan rows cols lift) (textRules plan s byrow bycol text) _ _ (plan-matches plan rows cols lift)
+      (join (tokenRules (departs text (tanner plan rows cols lift))) (weightRules plan s byrow bycol) _ _ (token-matches text (tanner plan rows cols lift)) (weight-matches plan s byrow bycol))

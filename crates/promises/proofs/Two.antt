@@ -6,7 +6,7 @@ use mathlib.Core.List.{List}
 use mathlib.Core.Option.{Option, none, some}
 use native.Mathlib.Omega.{arith}
 use lib.IntN.{ℤ}
-use lib.ListN.{length, take, getD}
+use lib.ListN.{take, getD}
 use Rattle.refusal.specs.declared.Refusal.{Refusal}
 use Rattle.refusal.specs.Lowest.{lowest}
 use Rattle.graph.specs.Count.{member}
@@ -31,7 +31,10 @@ use Rattle.peeling.proofs.Rules.{word-refused, clash-refused, not-refused}
 use Rattle.square.specs.Mask.{weight}
 use Rattle.grid.specs.Plan.{planRows, planCols}
 use Rattle.table.specs.declared.Built.the-variants.{Built}
-use Rattle.table.specs.Build.{lent, buildRules, builtPlan, built}
+use Rattle.refusal.specs.Lent.{lent}
+use Rattle.weights.specs.declared.Room.{Room}
+use Rattle.weights.specs.Weights.{roomOf}
+use Rattle.table.specs.Build.{buildRules, buildRefusal, builtPlan, built}
 use Rattle.table.proofs.Plans.{built-is-good}
 use Rattle.table.proofs.From004.{built-from-004, built-shape-004}
 use Rattle.promises.specs.Two.{ShortCycle, Verdict, Verdicts, Passing, BuiltPlan, BuiltPlans, Recovers, Promise-2}
@@ -84,7 +87,7 @@ passing-12 plan rows cols lift e p r a = verdict plan rows cols lift 12 a .passe
 
 -- TABLE PLANS
 
-built-plan : (order lift : ℕ) (table : List ℤ) (mask : List ℕ) (room : ℕ) → lowest (buildRules order lift table mask room) ≡ none
+built-plan : (order lift : ℕ) (table : List ℤ) (mask : List ℕ) (room : Room) → lowest (buildRules order lift table mask room) ≡ none
     → BuiltPlan order lift table mask (builtPlan order lift table mask) (planRows order (weight order mask)) (planCols order (weight order mask))
 built-plan order lift table mask room e =
     let good = built-is-good order lift table mask room e in
@@ -98,14 +101,14 @@ built-plan order lift table mask room e =
     }
 
 pub built-plans : BuiltPlans
-built-plans order lift table mask place rows cols = go (lowest (buildRules order lift table mask (length place))) refl
+built-plans order lift table mask place byrow bycol rows cols = go (buildRefusal order lift table mask place byrow bycol) refl
   where
-    go : (o : Option Refusal) → lowest (buildRules order lift table mask (length place)) ≡ o → built o order (weight order mask) ≡ Built rows cols
+    go : (o : Option Refusal) → buildRefusal order lift table mask place byrow bycol ≡ o → built o order (weight order mask) ≡ Built rows cols
         → BuiltPlan order lift table mask (lent o (builtPlan order lift table mask) place) rows cols
     go none q e =
         let r : planRows order (weight order mask) ≡ rows = cc in
         let c : planCols order (weight order mask) ≡ cols = cc in
-        subst₂ (BuiltPlan order lift table mask (builtPlan order lift table mask)) r c (built-plan order lift table mask (length place) q)
+        subst₂ (BuiltPlan order lift table mask (builtPlan order lift table mask)) r c (built-plan order lift table mask (roomOf place byrow bycol) q)
     go (some x) q e = absurd (let z : _≡_ {A = ℕ} 0 1 = cc in omega arith)
 
 -- THE FILLER

@@ -47,7 +47,7 @@ abbrev pub full : List ℕ
 full = replicate 16 1
 
 abbrev pub cyclicAnswer : ℕ → BuiltAnswer
-cyclicAnswer lift = built (lowest (buildRules 4 lift (suppliedTable Cyclic 4) full (48 * 64))) 4 (weight 4 full)
+cyclicAnswer lift = built (lowest (buildRules 4 lift (suppliedTable Cyclic 4) full (record { plan = 48 * 64; rows = 48; cols = 64 }))) 4 (weight 4 full)
 
 abbrev pub cyclicPlan : ℕ → List ℤ
 cyclicPlan lift = builtPlan 4 lift (suppliedTable Cyclic 4) full

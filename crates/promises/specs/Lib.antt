@@ -9,3 +9,4 @@ pub mod Texts
 pub mod Counts
 pub mod Remainders
 pub mod Preview
+pub mod Changes

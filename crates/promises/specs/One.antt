@@ -29,14 +29,20 @@ use Rattle.table.specs.declared.Supplied.{Supplied}
 use Rattle.table.specs.declared.Supplied.the-variants as supplied-answer
 use Rattle.table.specs.declared.Built.{Built}
 use Rattle.table.specs.declared.Built.the-variants as built-answer
-use Rattle.table.specs.Build.{lent, supplyRules, supplied, buildRules, builtPlan, built}
+use Rattle.refusal.specs.Lent.{lent}
+use Rattle.weights.specs.declared.Side.the-variants.{Bits, Checks}
+use Rattle.weights.specs.declared.change.Changed.{Changed}
+use Rattle.weights.specs.declared.change.Changed.the-variants as change-answer
+use Rattle.weights.specs.Weights.{roomOf}
+use Rattle.weights.specs.Change.{changed, Held, Call, refusalOf, after}
+use Rattle.table.specs.Build.{supplyRules, supplied, buildRefusal, builtPlan, builtWeights, built}
 use Rattle.steiner.specs.Build as steiner-build
 use Rattle.alist.specs.declared.Written.{Written}
 use Rattle.alist.specs.declared.Written.the-variants as written-answer
 use Rattle.alist.specs.declared.Comparison.{Comparison}
 use Rattle.alist.specs.declared.Comparison.the-variants as comparison-answer
 use Rattle.alist.specs.Calls.{alistText, writeRules, written, laid, compareRules, comparison}
-use Rattle.promises.specs.TurnedAway.{LiftRow, PlanRow, TargetRow, SquareRow, TableRow, MaskRow, PlaceRow, WordRow, RoomRow, ErasureRow, SolutionRow, TokenRow, SteinerRow, _or_, LowestOf}
+use Rattle.promises.specs.TurnedAway.{LiftRow, PlanRow, TargetRow, SquareRow, TableRow, MaskRow, PlaceRow, WordRow, RoomRow, ErasureRow, SolutionRow, TokenRow, SteinerRow, NewEntryRow, BlockRow, WeightRow, _or_, LowestOf}
 
 -- the refusal in each kind of answer
 abbrev pub ofValidity : Validity → Option Refusal
@@ -73,6 +79,10 @@ abbrev pub ofComparison : Comparison → Option Refusal
 ofComparison comparison-answer.Agrees = none
 ofComparison (comparison-answer.Refused r) = some r
 
+abbrev pub ofChanged : Changed → Option Refusal
+ofChanged change-answer.Changed = none
+ofChanged (change-answer.Refused r) = some r
+
 -- lent memory, before the call and after it: on a refusal it is as it was
 abbrev pub Unchanged : {A : Type 0} → Option Refusal → List A → List A → Type 0
 Unchanged answer before after = (r : Refusal) → answer ≡ some r → after ≡ before
@@ -100,24 +110,37 @@ pub record Promise-1 : Type 0 where
       → let refusal = lowest (supplyRules order (length table)) in
       let answer = ofSupplied (supplied refusal) in
       LowestOf (SquareRow order (length table)) answer × Unchanged answer table (lent refusal (suppliedTable family order) table)
-  -- 3, 7 to 13, 15
-  pub build : (order lift : ℕ) (table : List ℤ) (mask : List ℕ) (plan : List ℤ)
-      → let refusal = lowest (buildRules order lift table mask (length plan)) in
+  -- 3, 7 to 13, 15, and 25 (document 02, slip 7)
+  pub build : (order lift : ℕ) (table : List ℤ) (mask : List ℕ) (plan : List ℤ) (byrow bycol : List ℕ)
+      → let refusal = buildRefusal order lift table mask plan byrow bycol in
       let answer = ofBuilt (built refusal order (weight order mask)) in
-      LowestOf (LiftRow lift or SquareRow order (length table) or TableRow order lift table or (MaskRow order lift mask or PlaceRow order mask (length plan))) answer
+      LowestOf (LiftRow lift or SquareRow order (length table) or TableRow order lift table or (MaskRow order lift mask or PlaceRow order mask (roomOf plan byrow bycol))) answer
       × Unchanged answer plan (lent refusal (builtPlan order lift table mask) plan)
-  -- 3, 4, 6, 22, 23 (document 02, slip 6)
-  pub steiner : (order lift : ℕ) (voltages plan : List ℤ)
-      → let refusal = lowest (steiner-build.buildRules order lift voltages (length plan)) in
+      × Unchanged answer byrow (lent refusal (builtWeights order lift table mask Checks) byrow)
+      × Unchanged answer bycol (lent refusal (builtWeights order lift table mask Bits) bycol)
+  -- 3, 4, 6, 22, 23 (document 02, slip 6), 25
+  pub steiner : (order lift : ℕ) (voltages plan : List ℤ) (byrow bycol : List ℕ)
+      → let refusal = steiner-build.buildRefusal order lift voltages plan byrow bycol in
       let answer = ofBuilt (steiner-build.built refusal order) in
-      LowestOf (LiftRow lift or SteinerRow order lift voltages (length plan)) answer × Unchanged answer plan (lent refusal (steiner-build.steinerPlan order lift voltages) plan)
-  -- 1 to 6, 17
-  pub write : (plan : List ℤ) (rows cols lift : ℕ) (place : List ℕ)
-      → let refusal = lowest (writeRules plan rows cols lift place) in
+      LowestOf (LiftRow lift or SteinerRow order lift voltages (roomOf plan byrow bycol)) answer
+      × Unchanged answer plan (lent refusal (steiner-build.steinerPlan order lift voltages) plan)
+      × Unchanged answer byrow (lent refusal (steiner-build.steinerWeights order lift voltages Checks) byrow)
+      × Unchanged answer bycol (lent refusal (steiner-build.steinerWeights order lift voltages Bits) bycol)
+  -- 1 to 6, also of the new entry, 24, 25 (document 02, slip 7)
+  pub change : (c : Call) (h : Held)
+      → let s = c .shape in
+      let at = c .at in
+      let answer = ofChanged (changed (refusalOf c h)) in
+      LowestOf (PlanRow (h .plan) (s .rows) (s .cols) (s .lift) or NewEntryRow (h .plan) (s .rows) (s .cols) (c .entry)
+      or (BlockRow (s .rows) (s .cols) (at .row) (at .col) or WeightRow (h .plan) (s .rows) (s .cols) (s .lift) (h .rows) (h .cols))) answer
+      × Unchanged answer (h .plan) (after c h .plan) × Unchanged answer (h .rows) (after c h .rows) × Unchanged answer (h .cols) (after c h .cols)
+  -- 1 to 6, 17, 25
+  pub write : (plan : List ℤ) (rows cols lift : ℕ) (byrow bycol place : List ℕ)
+      → let refusal = lowest (writeRules plan rows cols lift byrow bycol place) in
       let text = alistText plan rows cols lift in
       let answer = ofWritten (written (length text) refusal) in
-      LowestOf (PlanRow plan rows cols lift or RoomRow text place) answer × Unchanged answer place (laid refusal text place)
-  -- 1 to 6, 21
-  pub compare : (plan : List ℤ) (rows cols lift : ℕ) (text : List ℕ)
-      → LowestOf (PlanRow plan rows cols lift or TokenRow text (tanner plan rows cols lift))
-      (ofComparison (comparison (lowest (compareRules plan rows cols lift text))))
+      LowestOf (PlanRow plan rows cols lift or (RoomRow text place or WeightRow plan rows cols lift byrow bycol)) answer × Unchanged answer place (laid refusal text place)
+  -- 1 to 6, 21, 25
+  pub compare : (plan : List ℤ) (rows cols lift : ℕ) (byrow bycol text : List ℕ)
+      → LowestOf (PlanRow plan rows cols lift or (TokenRow text (tanner plan rows cols lift) or WeightRow plan rows cols lift byrow bycol))
+      (ofComparison (comparison (lowest (compareRules plan rows cols lift byrow bycol text))))

@@ -10,11 +10,20 @@ use Rattle.refusal.specs.Lowest.{lowest}
 use Rattle.graph.specs.Girth.{IsGirth}
 use Rattle.exponent.specs.Limits.{planRules, validity}
 use Rattle.exponent.specs.Tanner.{tanner}
+use Rattle.exponent.specs.Remainders.{SameRemainders}
+use Rattle.weights.specs.Change.{changed, Held, Call, held, call, refusalOf, after}
 use Rattle.girth.specs.declared.GirthTest.{GirthTest}
 use Rattle.girth.specs.Test.{Answer}
 use Rattle.syndrome.specs.Check.{syndromeOf}
 use Rattle.peeling.specs.Fill.{fillAnswer, fillWord}
 use Rattle.alist.specs.Calls.{alistText, writeRules, written, laid, compareRules, comparison}
+
+-- what one change does alike to two plans with their lists
+pub record SameChange (lift : ℕ) (c : Call) (h g : Held) : Type 0 where
+  pub answer : changed (refusalOf c h) ≡ changed (refusalOf c g)
+  pub rows : after c h .rows ≡ after c g .rows
+  pub cols : after c h .cols ≡ after c g .cols
+  pub plan : SameRemainders lift (after c h .plan) (after c g .plan)
 
 -- what two plans of the same sizes have in common
 pub record SameAnswers (p q : List ℤ) (rows cols lift : ℕ) : Type 0 where
@@ -28,12 +37,15 @@ pub record SameAnswers (p q : List ℤ) (rows cols lift : ℕ) : Type 0 where
   pub syndrome : (word : List ℕ) → syndromeOf p rows cols lift word ≡ syndromeOf q rows cols lift word
   pub filling : (word : List ℕ) → fillAnswer p rows cols lift word ≡ fillAnswer q rows cols lift word
   pub filled-word : (word : List ℕ) → fillWord p rows cols lift word ≡ fillWord q rows cols lift word
-  -- the text, the answer of writing it and what the place then holds, and the comparison with any text
+  -- the text, the answer of writing it and what the place then holds, and the comparison with any text, whatever lists of weights are lent;
   pub text : alistText p rows cols lift ≡ alistText q rows cols lift
-  pub writing : (place : List ℕ)
-      → written (length (alistText p rows cols lift)) (lowest (writeRules p rows cols lift place))
-      ≡ written (length (alistText q rows cols lift)) (lowest (writeRules q rows cols lift place))
-  pub written-place : (place : List ℕ)
-      → laid (lowest (writeRules p rows cols lift place)) (alistText p rows cols lift) place
-      ≡ laid (lowest (writeRules q rows cols lift place)) (alistText q rows cols lift) place
-  pub comparing : (text : List ℕ) → comparison (lowest (compareRules p rows cols lift text)) ≡ comparison (lowest (compareRules q rows cols lift text))
+  pub writing : (byrow bycol place : List ℕ)
+      → written (length (alistText p rows cols lift)) (lowest (writeRules p rows cols lift byrow bycol place))
+      ≡ written (length (alistText q rows cols lift)) (lowest (writeRules q rows cols lift byrow bycol place))
+  pub written-place : (byrow bycol place : List ℕ)
+      → laid (lowest (writeRules p rows cols lift byrow bycol place)) (alistText p rows cols lift) place
+      ≡ laid (lowest (writeRules q rows cols lift byrow bycol place)) (alistText q rows cols lift) place
+  pub comparing : (byrow bycol text : List ℕ)
+      → comparison (lowest (compareRules p rows cols lift byrow bycol text)) ≡ comparison (lowest (compareRules q rows cols lift byrow bycol text))
+  -- the answer of a change (slip 7) and the lists of weights after it; and the plans after it have the same remainders again
+  pub changing : (row col : ℕ) (entry : ℤ) (byrow bycol : List ℕ) → SameChange lift (call rows cols lift row col entry) (held p byrow bycol) (held q byrow bycol)

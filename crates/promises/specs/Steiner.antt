@@ -3,15 +3,13 @@ use Prim.Native.Nat.{ℕ}
 use mathlib.Core.Path.{_≡_}
 use mathlib.Core.List.{List}
 use lib.IntN.{ℤ}
-use lib.ListN.{length}
-use Rattle.refusal.specs.Lowest.{lowest}
 use Rattle.graph.specs.Erasure.{Codeword}
 use Rattle.exponent.specs.Tanner.{tanner}
 use Rattle.table.specs.declared.Built.the-variants.{Built}
-use Rattle.table.specs.Build.{lent}
+use Rattle.refusal.specs.Lent.{lent}
 use Rattle.steiner.specs.System as system
 use Rattle.steiner.specs.Listed.{Listed, PairsOnce}
-use Rattle.steiner.specs.Build.{buildRules, steinerPlan, built}
+use Rattle.steiner.specs.Build.{buildRefusal, steinerPlan, built}
 use Rattle.steiner.specs.Plans.{TriplePlan}
 use Rattle.promises.specs.Two.{Passing}
 use Rattle.promises.specs.Three.{Loses, Recovered}
@@ -27,8 +25,8 @@ pub record SteinerPlan (order lift : ℕ) (voltages plan : List ℤ) (rows cols 
 -- wherever the builder answers that it built, of what its lent place then holds
 abbrev pub SteinerPlans : Type 0
 SteinerPlans =
-    (order lift : ℕ) (voltages place : List ℤ) (rows cols : ℕ)
-    → (let refusal = lowest (buildRules order lift voltages (length place)) in
+    (order lift : ℕ) (voltages place : List ℤ) (byrow bycol : List ℕ) (rows cols : ℕ)
+    → (let refusal = buildRefusal order lift voltages place byrow bycol in
     built refusal order ≡ Built rows cols
     → SteinerPlan order lift voltages (lent refusal (steinerPlan order lift voltages) place) rows cols)
 

@@ -9,13 +9,14 @@ use Rattle.graph.specs.Erasure.{Codeword}
 use Rattle.exponent.specs.Tanner.{tanner}
 use Rattle.square.specs.Mask.{weight}
 use Rattle.grid.specs.Plan.{planRows, planCols}
+use Rattle.weights.specs.declared.Room.{Room}
 use Rattle.table.specs.Build.{buildRules, builtPlan}
 use Rattle.promises.specs.Three.{Loses, Recovered}
 
 -- a code frame of a built plan that loses up to 13 bits comes back
 abbrev pub Thirteen : Type 0
 Thirteen =
-    (order lift : ℕ) (table : List ℤ) (mask : List ℕ) (room : ℕ) → lowest (buildRules order lift table mask room) ≡ none
+    (order lift : ℕ) (table : List ℤ) (mask : List ℕ) (room : Room) → lowest (buildRules order lift table mask room) ≡ none
     → (let plan = builtPlan order lift table mask in
     let rows = planRows order (weight order mask) in
     let cols = planCols order (weight order mask) in

@@ -10,6 +10,8 @@ use Rattle.graph.specs.Graph.{Bipartite}
 use Rattle.exponent.specs.declared.Validity.the-variants.{Valid}
 use Rattle.exponent.specs.Limits.{planRules, validity}
 use Rattle.exponent.specs.Tanner.{tanner}
+use Rattle.weights.specs.declared.Side.the-variants.{Bits, Checks}
+use Rattle.weights.specs.Weights.{shapeOf, weightsOf}
 use Rattle.tokens.specs.declared.Form.{Form}
 use Rattle.tokens.specs.declared.Form.the-variants.{Padded, Unpadded}
 use Rattle.lines.specs.Alist.{linesIn}
@@ -20,9 +22,11 @@ use Rattle.alist.specs.declared.Comparison.the-variants.{Agrees}
 use Rattle.alist.specs.Calls.{alistText, writeRules, written, laid, tokenRules, compareRules, comparison}
 use Rattle.promises.specs.TurnedAway.{DepartsAt}
 
--- the comparison answers that a text agrees
+-- the comparison answers that a text agrees; the lists of weights that it is lent are the plan's (slip 7)
 abbrev pub Agreeing : List ℤ → ℕ → ℕ → ℕ → List ℕ → Type 0
-Agreeing plan rows cols lift text = comparison (lowest (compareRules plan rows cols lift text)) ≡ Agrees
+Agreeing plan rows cols lift text =
+    let s = shapeOf rows cols lift in
+    comparison (lowest (compareRules plan rows cols lift (weightsOf plan s Checks) (weightsOf plan s Bits) text)) ≡ Agrees
 
 -- a text is a form of an alist, whole: it departs from it nowhere
 abbrev pub IsForm : Form → List ℕ → Bipartite → Type 0
@@ -39,7 +43,7 @@ pub record AgreeingTexts (plan : List ℤ) (rows cols lift : ℕ) : Type 0 where
   -- the unpadded text of a valid plan agrees
   pub unpadded-text : validity (lowest (planRules plan rows cols lift)) ≡ Valid → Agreeing plan rows cols lift (textOf (linesIn Unpadded (tanner plan rows cols lift)))
   -- what was written into a place agrees
-  pub written-text : (place : List ℕ) (n : ℕ)
+  pub written-text : (byrow bycol place : List ℕ) (n : ℕ)
       → let text = alistText plan rows cols lift in
-      let refusal = lowest (writeRules plan rows cols lift place) in
+      let refusal = lowest (writeRules plan rows cols lift byrow bycol place) in
       written (length text) refusal ≡ written-answer.Written n → Agreeing plan rows cols lift (take n (laid refusal text place))

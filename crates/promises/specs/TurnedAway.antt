@@ -12,6 +12,8 @@ use Rattle.refusal.specs.Number.{number, values}
 use Rattle.refusal.specs.Place.{First}
 use Rattle.graph.specs.Graph.{Bipartite}
 use Rattle.graph.specs.Erasure.{Solution}
+use Rattle.exponent.specs.Tanner.{rowWeight, columnWeight}
+use Rattle.weights.specs.declared.Room.{Room}
 use Rattle.square.specs.declared.search.Quad.{Quad}
 use Rattle.square.specs.Table.{tableAt, Repeat, Before}
 use Rattle.square.specs.Mask.{Common}
@@ -67,9 +69,10 @@ pub data MaskRow (order lift : ℕ) (mask : List ℕ) : ℕ → List ℕ → Typ
   row-12 : ((L : ℕ) → Common order mask L → ⊥) → MaskRow order lift mask 12 []
   row-13 : (L : ℕ) → Common order mask L → 65536 < order * (L * L) * lift → MaskRow order lift mask 13 []
 
--- CALLER LENDING MEMORY. 15: the place for the plan has `room` numbers
-pub data PlaceRow (order : ℕ) (mask : List ℕ) (room : ℕ) : ℕ → List ℕ → Type 0 where
-  row-15 : (L : ℕ) → Common order mask L → room ≢ 3 * (L * order) * (order * (L * L)) → PlaceRow order mask room 15 []
+-- CALLER LENDING MEMORY. 15: how many numbers the place for the plan has; 25 (document 02, slip 7): those for its weights
+pub data PlaceRow (order : ℕ) (mask : List ℕ) (room : Room) : ℕ → List ℕ → Type 0 where
+  row-15 : (L : ℕ) → Common order mask L → room .plan ≢ 3 * (L * order) * (order * (L * L)) → PlaceRow order mask room 15 []
+  table-lists : (L : ℕ) → Common order mask L → (room .rows ≢ 3 * (L * order)) ⊎ (room .cols ≢ order * (L * L)) → PlaceRow order mask room 25 []
 
 -- 16, and of the FILM READER 18: a byte above 2
 pub data WordRow (bits : ℕ) (word : List ℕ) : ℕ → List ℕ → Type 0 where
@@ -152,12 +155,32 @@ pub data IsOrder : ℕ → Type 0 where
 abbrev pub triples : ℕ → ℕ
 triples order = order * (order - 1) / 6
 
--- 4, of the order's triples; 6, of the first negative voltage; 22: the order; 23: how many voltages, and numbers in the plan's place
-pub data SteinerRow (order lift : ℕ) (voltages : List ℤ) (room : ℕ) : ℕ → List ℕ → Type 0 where
+-- 4, of the order's triples; 6, of the first negative voltage; 22: the order; 23: how many voltages, and numbers in the plan's place;
+-- 25 (slip 7): how many in those for its weights
+pub data SteinerRow (order lift : ℕ) (voltages : List ℤ) (room : Room) : ℕ → List ℕ → Type 0 where
   bits : IsOrder order → 65536 < triples order * lift → SteinerRow order lift voltages room 4 []
   voltage : (place : ℕ) → First (length voltages) (λ p. IsNegative (getD voltages p (pos 0))) place → SteinerRow order lift voltages room 6 (place ∷ [])
   row-22 : (IsOrder order → ⊥) → SteinerRow order lift voltages room 22 []
-  row-23 : IsOrder order → (length voltages ≢ 3 * triples order) ⊎ (room ≢ order * triples order) → SteinerRow order lift voltages room 23 []
+  row-23 : IsOrder order → (length voltages ≢ 3 * triples order) ⊎ (room .plan ≢ order * triples order) → SteinerRow order lift voltages room 23 []
+  steiner-lists : IsOrder order → (room .rows ≢ order) ⊎ (room .cols ≢ triples order) → SteinerRow order lift voltages room 25 []
+
+-- WHO CHANGES A BLOCK (document 02, slip 7). 6, where no entry of the plan is below −1 but the new one is: its place is R × C
+pub data NewEntryRow (plan : List ℤ) (rows cols : ℕ) (entry : ℤ) : ℕ → List ℕ → Type 0 where
+  row-6-new : length plan ≡ rows * cols → ((p : ℕ) → p < length plan → BelowMinusOne (getD plan p (pos 0)) → ⊥) → BelowMinusOne entry
+      → NewEntryRow plan rows cols entry 6 (rows * cols ∷ [])
+
+-- 24: the row or the column lies outside the plan
+pub data BlockRow (rows cols row col : ℕ) : ℕ → List ℕ → Type 0 where
+  row-24 : (rows ≤ row) ⊎ (cols ≤ col) → BlockRow rows cols row col 24 []
+
+-- a list of weights has another length than n, or somewhere another number than the weight
+pub data WrongList (list : List ℕ) (n : ℕ) (weight : ℕ → ℕ) : Type 0 where
+  wrong-length : length list ≢ n → WrongList list n weight
+  wrong-count : (i : ℕ) → i < n → getD list i 0 ≢ weight i → WrongList list n weight
+
+-- 25, of the calls that do not build the plan: its row weights or its column weights are wrong
+pub data WeightRow (plan : List ℤ) (rows cols lift : ℕ) (byrow bycol : List ℕ) : ℕ → List ℕ → Type 0 where
+  row-25 : WrongList byrow rows (rowWeight plan cols lift) ⊎ WrongList bycol cols (columnWeight plan rows cols lift) → WeightRow plan rows cols lift byrow bycol 25 []
 
 -- ROWS TOGETHER, and the lowest number that applies.
 infixl 1 _or_

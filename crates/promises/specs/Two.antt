@@ -23,7 +23,8 @@ use Rattle.square.specs.Table.{tableAt}
 use Rattle.square.specs.Mask.{maskAt, weight}
 use Rattle.grid.specs.Source004.{keptColumns, keptRows, target as target004, written}
 use Rattle.table.specs.declared.Built.the-variants.{Built}
-use Rattle.table.specs.Build.{lent, buildRules, builtPlan, built}
+use Rattle.refusal.specs.Lent.{lent}
+use Rattle.table.specs.Build.{buildRefusal, builtPlan, built}
 
 -- A PLAN PASSES at a target exactly when its expanded graph has no simple cycle with fewer edges than the target, and else such a
 -- cycle is shown, of exactly as many edges as the girth (document 02, slip 2).
@@ -67,8 +68,8 @@ pub record BuiltPlan (order lift : ℕ) (table : List ℤ) (mask : List ℕ) (pl
 -- wherever the builder answers that it built, of what its lent place then holds
 abbrev pub BuiltPlans : Type 0
 BuiltPlans =
-    (order lift : ℕ) (table : List ℤ) (mask : List ℕ) (place : List ℤ) (rows cols : ℕ)
-    → (let refusal = lowest (buildRules order lift table mask (length place)) in
+    (order lift : ℕ) (table : List ℤ) (mask : List ℕ) (place : List ℤ) (byrow bycol : List ℕ) (rows cols : ℕ)
+    → (let refusal = buildRefusal order lift table mask place byrow bycol in
     built refusal order (weight order mask) ≡ Built rows cols
     → BuiltPlan order lift table mask (lent refusal (builtPlan order lift table mask) place) rows cols)
 

@@ -24,6 +24,8 @@ use Rattle.alist.specs.declared.Written.{Written as WrittenAnswer}
 use Rattle.alist.specs.declared.Written.the-variants.{Written, Refused as NotWritten}
 use Rattle.alist.specs.declared.Comparison.{Comparison}
 use Rattle.alist.specs.declared.Comparison.the-variants.{Agrees, Refused as NotAgreed}
+use Rattle.weights.specs.declared.change.Changed.{Changed as ChangedAnswer}
+use Rattle.weights.specs.declared.change.Changed.the-variants.{Changed, Refused as NotChanged}
 use Rattle.qcldpc.specs.declared.reply.Reply.{Reply}
 use Rattle.qcldpc.specs.declared.reply.Reply.the-variants.{Refused as Refuses, Nothing, One, Two}
 
@@ -90,6 +92,11 @@ writtenReply (NotWritten r) = Refuses r
 abbrev pub comparedReply : Comparison → Reply
 comparedReply Agrees = Nothing
 comparedReply (NotAgreed r) = Refuses r
+
+-- a block changed: nothing but whether it is refused
+abbrev pub changedReply : ChangedAnswer → Reply
+changedReply Changed = Nothing
+changedReply (NotChanged r) = Refuses r
 
 -- an answer's reply, put into `out`
 abbrev pub gives : {A : Type 0} → (A → Reply) → A → List ℕ → Given

@@ -18,14 +18,19 @@ ghost use Rattle.square.specs.Table.{suppliedTable};
 ghost use Rattle.square.specs.Mask.{weight};
 ghost use Rattle.table.specs.declared.Built.{Built};
 ghost use Rattle.table.specs.declared.Supplied.{Supplied};
-ghost use Rattle.table.specs.Build.{lent, supplyRules, supplied, buildRules, builtPlan, built};
+ghost use Rattle.refusal.specs.Lent.{lent};
+ghost use Rattle.weights.specs.declared.Side.the-variants.{Bits, Checks};
+ghost use Rattle.weights.specs.declared.change.Changed.{Changed};
+ghost use Rattle.weights.specs.Change.{changed, call, held, refusalOf, after};
+ghost use Rattle.table.specs.Build.{supplyRules, supplied, buildRefusal, builtPlan, builtWeights, built};
 ghost use Rattle.steiner.specs.Build as steiner;
 ghost use Rattle.alist.specs.declared.Written.{Written};
 ghost use Rattle.alist.specs.declared.Comparison.{Comparison};
 ghost use Rattle.alist.specs.Calls.{alistText, writeRules, written, laid, compareRules, comparison};
 ghost use Rattle.qcldpc.specs.declared.reply.Reply.the-variants.{One};
-ghost use Rattle.qcldpc.specs.Door.{Replies, Leaves, gives, checkReply, girthReply, fillReply, syndromeReply, builtReply, suppliedReply, writtenReply, comparedReply};
+ghost use Rattle.qcldpc.specs.Door.{Replies, Leaves, gives, checkReply, girthReply, fillReply, syndromeReply, builtReply, suppliedReply, writtenReply, comparedReply, changedReply};
 use square::supply::Family;
+use weights::change;
 
 mod reply; // reply.rt: an answer as a number and values
 
@@ -153,7 +158,7 @@ pub extern "C" fn qcldpc_count_erasures(word: &[u8], out: &mut [u64]) -> u64
     reply::give(reply::Reply::One(n), out)
 }
 
-// The plan of a table and a mask: out[0] rows and out[1] columns.
+// The plan of a table and a mask, with its row and column weights: out[0] rows and out[1] columns.
 #[no_mangle]
 pub extern "C" fn qcldpc_build(
     order: u64,
@@ -161,40 +166,108 @@ pub extern "C" fn qcldpc_build(
     table: &[i16],
     mask: &[u8],
     plan: &mut [i16],
+    row_weights: &mut [u16],
+    col_weights: &mut [u16],
     out: &mut [u64],
 ) -> u64
-    ensures answers { λ r. ⌜ Replies Built (λ a. a ≡ built (lowest (buildRules order lift (now (table .entry)) (now (mask .entry)) (length (now (plan .entry)))))
+    ensures answers { λ r. ⌜ Replies Built (λ a. a ≡ built (buildRefusal order lift (now (table .entry)) (now (mask .entry)) (now (plan .entry)) (now («row_weights» .entry)) (now («col_weights» .entry)))
         order (weight order (now (mask .entry)))) (gives builtReply) (now (out .entry)) r (now (out .exit)) ⌝ }
-    ensures leaves { λ _. ⌜ Leaves (now (out .entry)) (lent (lowest (buildRules order lift (now (table .entry)) (now (mask .entry)) (length (now (plan .entry)))))
+    ensures leaves { λ _. ⌜ Leaves (now (out .entry)) (lent (buildRefusal order lift (now (table .entry)) (now (mask .entry)) (now (plan .entry)) (now («row_weights» .entry)) (now («col_weights» .entry)))
         (builtPlan order lift (now (table .entry)) (now (mask .entry))) (now (plan .entry))) (now (plan .entry)) (now (plan .exit)) ⌝ }
+    ensures rows { λ _. ⌜ Leaves (now (out .entry)) (lent (buildRefusal order lift (now (table .entry)) (now (mask .entry)) (now (plan .entry)) (now («row_weights» .entry)) (now («col_weights» .entry)))
+        (builtWeights order lift (now (table .entry)) (now (mask .entry)) Checks) (now («row_weights» .entry))) (now («row_weights» .entry)) (now («row_weights» .exit)) ⌝ }
+    ensures cols { λ _. ⌜ Leaves (now (out .entry)) (lent (buildRefusal order lift (now (table .entry)) (now (mask .entry)) (now (plan .entry)) (now («row_weights» .entry)) (now («col_weights» .entry)))
+        (builtWeights order lift (now (table .entry)) (now (mask .entry)) Bits) (now («col_weights» .entry))) (now («col_weights» .entry)) (now («col_weights» .exit)) ⌝ }
 {
     if out.len() < PLACES {
         return NO_ROOM;
     }
-    let a = table::build(order as usize, lift as usize, table, mask, plan);
+    let a = table::build(
+        order as usize,
+        lift as usize,
+        table,
+        mask,
+        plan,
+        row_weights,
+        col_weights,
+    );
     let r = reply::built(a);
     reply::give(r, out)
 }
 
-// The plan of a Steiner triple system: out[0] rows and out[1] columns.
+// The plan of a Steiner triple system, with its row and column weights: out[0] rows and out[1] columns.
 #[no_mangle]
 pub extern "C" fn qcldpc_steiner(
     order: u64,
     lift: u64,
     voltages: &[i16],
     plan: &mut [i16],
+    row_weights: &mut [u16],
+    col_weights: &mut [u16],
     out: &mut [u64],
 ) -> u64
-    ensures answers { λ r. ⌜ Replies Built (λ a. a ≡ steiner.built (lowest (steiner.buildRules order lift (now (voltages .entry)) (length (now (plan .entry))))) order)
+    ensures answers { λ r. ⌜ Replies Built (λ a. a ≡ steiner.built (steiner.buildRefusal order lift (now (voltages .entry)) (now (plan .entry)) (now («row_weights» .entry)) (now («col_weights» .entry))) order)
         (gives builtReply) (now (out .entry)) r (now (out .exit)) ⌝ }
-    ensures leaves { λ _. ⌜ Leaves (now (out .entry)) (lent (lowest (steiner.buildRules order lift (now (voltages .entry)) (length (now (plan .entry)))))
+    ensures leaves { λ _. ⌜ Leaves (now (out .entry)) (lent (steiner.buildRefusal order lift (now (voltages .entry)) (now (plan .entry)) (now («row_weights» .entry)) (now («col_weights» .entry)))
         (steiner.steinerPlan order lift (now (voltages .entry))) (now (plan .entry))) (now (plan .entry)) (now (plan .exit)) ⌝ }
+    ensures rows { λ _. ⌜ Leaves (now (out .entry)) (lent (steiner.buildRefusal order lift (now (voltages .entry)) (now (plan .entry)) (now («row_weights» .entry)) (now («col_weights» .entry)))
+        (steiner.steinerWeights order lift (now (voltages .entry)) Checks) (now («row_weights» .entry))) (now («row_weights» .entry)) (now («row_weights» .exit)) ⌝ }
+    ensures cols { λ _. ⌜ Leaves (now (out .entry)) (lent (steiner.buildRefusal order lift (now (voltages .entry)) (now (plan .entry)) (now («row_weights» .entry)) (now («col_weights» .entry)))
+        (steiner.steinerWeights order lift (now (voltages .entry)) Bits) (now («col_weights» .entry))) (now («col_weights» .entry)) (now («col_weights» .exit)) ⌝ }
 {
     if out.len() < PLACES {
         return NO_ROOM;
     }
-    let a = steiner::build(order as usize, lift as usize, voltages, plan);
+    let a = steiner::build(
+        order as usize,
+        lift as usize,
+        voltages,
+        plan,
+        row_weights,
+        col_weights,
+    );
     let r = reply::built(a);
+    reply::give(r, out)
+}
+
+// One entry changed, with the row and column weights kept true.
+#[no_mangle]
+pub extern "C" fn qcldpc_change(
+    plan: &mut [i16],
+    rows: u64,
+    cols: u64,
+    lift: u64,
+    row: u64,
+    col: u64,
+    entry: i16,
+    row_weights: &mut [u16],
+    col_weights: &mut [u16],
+    out: &mut [u64],
+) -> u64
+    ensures answers { λ r. ⌜ Replies Changed (λ a. a ≡ changed (refusalOf (call rows cols lift row col entry) (held (now (plan .entry)) (now («row_weights» .entry)) (now («col_weights» .entry)))))
+        (gives changedReply) (now (out .entry)) r (now (out .exit)) ⌝ }
+    ensures leaves { λ _. ⌜ Leaves (now (out .entry)) (after (call rows cols lift row col entry) (held (now (plan .entry)) (now («row_weights» .entry)) (now («col_weights» .entry))) .plan)
+        (now (plan .entry)) (now (plan .exit)) ⌝ }
+    ensures rows { λ _. ⌜ Leaves (now (out .entry)) (after (call rows cols lift row col entry) (held (now (plan .entry)) (now («row_weights» .entry)) (now («col_weights» .entry))) .rows)
+        (now («row_weights» .entry)) (now («row_weights» .exit)) ⌝ }
+    ensures cols { λ _. ⌜ Leaves (now (out .entry)) (after (call rows cols lift row col entry) (held (now (plan .entry)) (now («row_weights» .entry)) (now («col_weights» .entry))) .cols)
+        (now («col_weights» .entry)) (now («col_weights» .exit)) ⌝ }
+{
+    if out.len() < PLACES {
+        return NO_ROOM;
+    }
+    let a = change::change(
+        plan,
+        rows as usize,
+        cols as usize,
+        lift as usize,
+        row as usize,
+        col as usize,
+        entry,
+        row_weights,
+        col_weights,
+    );
+    let r = reply::changed(a);
     reply::give(r, out)
 }
 
@@ -239,18 +312,28 @@ pub extern "C" fn qcldpc_alist_write(
     rows: u64,
     cols: u64,
     lift: u64,
+    row_weights: &[u16],
+    col_weights: &[u16],
     text: &mut [u8],
     out: &mut [u64],
 ) -> u64
-    ensures answers { λ r. ⌜ Replies Written (λ a. a ≡ written (length (alistText (now (plan .entry)) rows cols lift)) (lowest (writeRules (now (plan .entry)) rows cols lift (now (text .entry)))))
+    ensures answers { λ r. ⌜ Replies Written (λ a. a ≡ written (length (alistText (now (plan .entry)) rows cols lift)) (lowest (writeRules (now (plan .entry)) rows cols lift (now («row_weights» .entry)) (now («col_weights» .entry)) (now (text .entry)))))
         (gives writtenReply) (now (out .entry)) r (now (out .exit)) ⌝ }
-    ensures leaves { λ _. ⌜ Leaves (now (out .entry)) (laid (lowest (writeRules (now (plan .entry)) rows cols lift (now (text .entry)))) (alistText (now (plan .entry)) rows cols lift) (now (text .entry)))
+    ensures leaves { λ _. ⌜ Leaves (now (out .entry)) (laid (lowest (writeRules (now (plan .entry)) rows cols lift (now («row_weights» .entry)) (now («col_weights» .entry)) (now (text .entry)))) (alistText (now (plan .entry)) rows cols lift) (now (text .entry)))
         (now (text .entry)) (now (text .exit)) ⌝ }
 {
     if out.len() < PLACES {
         return NO_ROOM;
     }
-    let a = alist::write(plan, rows as usize, cols as usize, lift as usize, text);
+    let a = alist::write(
+        plan,
+        rows as usize,
+        cols as usize,
+        lift as usize,
+        row_weights,
+        col_weights,
+        text,
+    );
     let r = reply::written(a);
     reply::give(r, out)
 }
@@ -262,15 +345,25 @@ pub extern "C" fn qcldpc_alist_compare(
     rows: u64,
     cols: u64,
     lift: u64,
+    row_weights: &[u16],
+    col_weights: &[u16],
     text: &[u8],
     out: &mut [u64],
 ) -> u64
-    ensures { λ r. ⌜ Replies Comparison (λ a. a ≡ comparison (lowest (compareRules (now (plan .entry)) rows cols lift (now (text .entry))))) (gives comparedReply) (now (out .entry)) r (now (out .exit)) ⌝ }
+    ensures { λ r. ⌜ Replies Comparison (λ a. a ≡ comparison (lowest (compareRules (now (plan .entry)) rows cols lift (now («row_weights» .entry)) (now («col_weights» .entry)) (now (text .entry))))) (gives comparedReply) (now (out .entry)) r (now (out .exit)) ⌝ }
 {
     if out.len() < PLACES {
         return NO_ROOM;
     }
-    let a = alist::compare(plan, rows as usize, cols as usize, lift as usize, text);
+    let a = alist::compare(
+        plan,
+        rows as usize,
+        cols as usize,
+        lift as usize,
+        row_weights,
+        col_weights,
+        text,
+    );
     let r = reply::compared(a);
     reply::give(r, out)
 }

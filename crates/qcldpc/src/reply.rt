@@ -9,11 +9,12 @@ use refusal::numbers;
 use syndrome::Syndrome;
 use table::Built;
 use table::Supplied;
+use weights::change::Changed;
 ghost use mathlib.Core.Path.{_≡_};
 ghost use Prim.Native.Nat.{_+_, _≤_};
 ghost use lib.ListN.{length};
 ghost use lib.Seq.{sets};
-ghost use Rattle.qcldpc.specs.Door.{refusal, given, checkReply, witnessReply, girthReply, fillReply, syndromeReply, builtReply, suppliedReply, writtenReply, comparedReply};
+ghost use Rattle.qcldpc.specs.Door.{refusal, given, checkReply, witnessReply, girthReply, fillReply, syndromeReply, builtReply, suppliedReply, writtenReply, comparedReply, changedReply};
 
 // What an answer comes to: a refusal; or no number, one or two for the first places of `out`.
 pub enum Reply {
@@ -165,5 +166,15 @@ pub fn compared(c: Comparison) -> Reply
     match c {
         Comparison::Agrees => Reply::Nothing,
         Comparison::Refused(r) => Reply::Refused(r),
+    }
+}
+
+// A block changed.
+pub fn changed(c: Changed) -> Reply
+    ensures { λ r. ⌜ r ≡ changedReply c ⌝ }
+{
+    match c {
+        Changed::Changed => Reply::Nothing,
+        Changed::Refused(r) => Reply::Refused(r),
     }
 }

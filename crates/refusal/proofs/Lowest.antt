@@ -1,7 +1,7 @@
 -- Laws of `lowest`: in a list whose numbers rise, it is the refusal that applies and than which none with a lower number does.
 -- Assumes nothing.
 use Prim.Native.Nat.{ℕ, _≤_, _<_}
-use mathlib.Core.Path.{_≡_, refl, sym, _∙_}
+use mathlib.Core.Path.{_≡_, refl, sym, ap, _∙_}
 use mathlib.Core.Logic.{_↔_, _⊎_, inl, inr}
 use mathlib.Core.Bool.{Bool, true, false, cond, _&&_}
 use mathlib.Core.List.{List, [], _∷_, _++_}
@@ -65,6 +65,34 @@ lowest-refused (rule ∷ rules) others r e = step (first (rule .applies) (rule .
         → (lowest rules ≡ some r → lowest (rules ++ others) ≡ some r) → cond (rule .applies) (some (rule .refusal)) (lowest (rules ++ others)) ≡ some r
     step (inl (p, q)) more = rw (p, q)
     step (inr (p, q)) more = rw p (more q)
+
+-- rules of which none applies add nothing
+pub none-after : (rules others : List Rule) → lowest others ≡ none → lowest (rules ++ others) ≡ lowest rules
+none-after rules others e = by (lowest rules) refl
+  where
+    by : (o : Option Refusal) → lowest rules ≡ o → lowest (rules ++ others) ≡ lowest rules
+    by none p = lowest-accepted rules others p ∙ e ∙ sym p
+    by (some r) p = lowest-refused rules others r p ∙ sym p
+
+-- a list whose numbers lie below n gives none from n on; so after it a refusal with the number n comes of the other rules alone
+abbrev pub under : ℕ → List Rule → Bool
+under n [] = true
+under n (rule ∷ rules) = ltb (number (rule .refusal)) n && under n rules
+
+lowest-under : (n : ℕ) (rules : List Rule) → under n rules ≡ true → (r : Refusal) → lowest rules ≡ some r → number r < n
+unfolding lowest
+lowest-under n [] t r e = absurd (Option·none-ne-some r e)
+lowest-under n (rule ∷ rules) t r e =
+    let (low, rest) = both (ltb (number (rule .refusal)) n) (under n rules) t in
+    step (first (rule .applies) (rule .refusal) r (lowest rules) e) low (lowest-under n rules rest r)
+  where
+    step : ((rule .applies ≡ true) × (rule .refusal ≡ r)) ⊎ ((rule .applies ≡ false) × (lowest rules ≡ some r))
+        → ltb (number (rule .refusal)) n ≡ true → (lowest rules ≡ some r → number r < n) → number r < n
+    step (inl (p, q)) low more = omega (arith, ap number q, ltb-true (number (rule .refusal)) n low)
+    step (inr (p, q)) low more = more q
+
+pub not-after : (rules others : List Rule) (r : Refusal) → under (number r) rules ≡ true → lowest others ≡ none → lowest (rules ++ others) ≡ some r → ⊥
+not-after rules others r t n e = let low = lowest-under (number r) rules t r (sym (none-after rules others n) ∙ e) in omega arith
 
 -- nothing of two lists applies exactly where nothing of either does
 pub none-append : (rules others : List Rule) → (lowest (rules ++ others) ≡ none) ↔ ((lowest rules ≡ none) × (lowest others ≡ none))

@@ -39,4 +39,7 @@ pub enum Refusal {
     // 22 and 23: who asks for a Steiner triple plan.
     SteinerOrder,
     SteinerLength,
+    // 24 and 25: the designer who changes a block, and lends lists of weights.
+    BlockPlace,
+    Weights,
 }

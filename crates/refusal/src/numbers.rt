@@ -38,6 +38,8 @@ pub fn number_of(r: Refusal) -> u64
         Refusal::Token(_) => 21,
         Refusal::SteinerOrder => 22,
         Refusal::SteinerLength => 23,
+        Refusal::BlockPlace => 24,
+        Refusal::Weights => 25,
     }
 }
 

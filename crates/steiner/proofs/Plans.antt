@@ -24,6 +24,7 @@ use Rattle.exponent.specs.Limits.{WellFormed}
 use Rattle.exponent.specs.Tanner.{edge, tanner, columnWeight, rowWeight, ThreeBlocks}
 use Rattle.exponent.proofs.Rules.{accepted}
 use Rattle.exponent.proofs.Numbers.{number-low, same-number, block-of, place-of, block-low, cancel}
+use Rattle.weights.specs.declared.Room.{Room}
 use Rattle.square.specs.Each.{each}
 use Rattle.square.specs.Table.{block}
 use Rattle.square.proofs.Each.{length-ones, ones-at, each-digits}
@@ -37,7 +38,7 @@ use Rattle.steiner.proofs.Pairs.{triple-rises, three-points, half-tripl
 use Rattle.steiner.proofs.Accepted.{taken}
 
 -- the numbers of the refusals rise, whatever is lent
-pub rules-rise : (order lift : ℕ) (voltages : List ℤ) (room : ℕ) → rising (buildRules order lift voltages room) ≡ true
+pub rules-rise : (order lift : ℕ) (voltages : List ℤ) (room : Room) → rising (buildRules order lift voltages room) ≡ true
 unfolding buildRules
 rules-rise order lift voltages room = refl
 
@@ -190,7 +191,7 @@ module _ (v P : ℕ) (voltages : List ℤ) (known : isOrder v ≡ true) (p : 0 <
   passing = passes-6 G no-four
 
 -- THE THEOREM: every plan that `build` builds
-pub built-plan : (order lift : ℕ) (voltages : List ℤ) (room : ℕ) → lowest (buildRules order lift voltages room) ≡ none
+pub built-plan : (order lift : ℕ) (voltages : List ℤ) (room : Room) → lowest (buildRules order lift voltages room) ≡ none
     → TriplePlan order lift voltages (steinerPlan order lift voltages)
 unfolding ThreeBlocks
 built-plan order lift voltages room e =

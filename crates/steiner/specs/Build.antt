@@ -1,4 +1,4 @@
--- The builder (document 02, slip 6): its refusals in rising order of number, its plan, its answer.
+-- The builder (document 02, slips 6 and 7): its refusals in rising order of number, its plan and weights, its answer.
 use Prim.Native.Nat.{ℕ, _+_, _*_, _%_, _≤_}
 use mathlib.Core.Path.{_≡_}
 use mathlib.Core.Bool.{true, not, _||_}
@@ -9,24 +9,31 @@ use lib.IntN.{ℤ, pos}
 use lib.ListN.{length, getD}
 use Rattle.refusal.specs.declared.Refusal.{Refusal}
 use Rattle.refusal.specs.declared.Refusal.the-variants.{Lift, Bits, Entry, SteinerOrder, SteinerLength}
-use Rattle.refusal.specs.Lowest.{Rule, refuse}
+use Rattle.refusal.specs.Lowest.{Rule, refuse, lowest}
 use Rattle.refusal.specs.Place.{firstPlace, somewhere}
 use Rattle.exponent.specs.Limits.{outside}
+use Rattle.weights.specs.declared.Side.{Side}
+use Rattle.weights.specs.declared.Room.{Room}
+use Rattle.weights.specs.Weights.{shapeOf, weightsOf, roomOf, lengthRules}
 use Rattle.square.specs.Each.{each}
 use Rattle.square.specs.Table.{signed, natural, negative, block}
 use Rattle.table.specs.declared.Built.{Built as BuiltAnswer}
 use Rattle.table.specs.declared.Built.the-variants.{Built, Refused}
 use Rattle.steiner.specs.System.{isOrder, cols, tripleAt, placeIn, has, tooLong}
 
--- the lift; too many bits; a negative voltage, with its first place; the order; the lengths of the voltages and of the plan's place
-unfoldable pub buildRules : ℕ → ℕ → List ℤ → ℕ → List Rule
+-- the lift; too many bits; a negative voltage, with its first place; the order; the lengths of voltages and plan; those of the weights
+unfoldable pub buildRules : ℕ → ℕ → List ℤ → Room → List Rule
 buildRules order lift voltages room =
     refuse Lift (outside 1 4096 lift)
     ∷ refuse Bits (tooLong order lift)
     ∷ refuse (Entry (firstPlace negative voltages)) (somewhere negative voltages)
     ∷ refuse SteinerOrder (not (isOrder order))
-    ∷ refuse SteinerLength (not (eqb (length voltages) (3 * cols order)) || not (eqb room (order * cols order)))
-    ∷ []
+    ∷ refuse SteinerLength (not (eqb (length voltages) (3 * cols order)) || not (eqb (room .plan) (order * cols order)))
+    ∷ lengthRules room order (cols order)
+
+-- why a call with these three lent lists is refused, if it is
+abbrev pub buildRefusal : ℕ → ℕ → List ℤ → List ℤ → List ℕ → List ℕ → Option Refusal
+buildRefusal order lift voltages plan rows columns = lowest (buildRules order lift voltages (roomOf plan rows columns))
 
 -- the voltage at a place (a negative one, which 6 turns away, is taken for 0)
 abbrev pub voltageAt : List ℤ → ℕ → ℕ
@@ -39,6 +46,10 @@ entry order lift voltages i j = block (has (tripleAt order j) i) (voltageAt volt
 -- the plan, row by row: points from 0, triples in the order of the list
 unfoldable pub steinerPlan : ℕ → ℕ → List ℤ → List ℤ
 steinerPlan order lift voltages = each order (λ i. each (cols order) (λ j. entry order lift voltages i j ∷ []))
+
+-- the weights of its rows and of its columns
+unfoldable pub steinerWeights : ℕ → ℕ → List ℤ → Side → List ℕ
+steinerWeights order lift voltages side = weightsOf (steinerPlan order lift voltages) (shapeOf order (cols order) lift) side
 
 -- the answer: points are rows, triples are columns
 abbrev pub built : Option Refusal → ℕ → BuiltAnswer

@@ -3,13 +3,14 @@ use exponent::Validity;
 use exponent::limits;
 use refusal::Refusal;
 use square::search;
+use weights::Room;
 ghost use mathlib.Core.Path.{_≡_};
 ghost use Rattle.refusal.specs.Lowest.{lowest};
 ghost use Rattle.exponent.specs.Limits.{validity};
 ghost use Rattle.steiner.specs.Build.{buildRules};
 
 // All refusals of the builder, the lowest first.
-pub fn judge(order: usize, lift: usize, voltages: &[i16], room: usize) -> Validity
+pub fn judge(order: usize, lift: usize, voltages: &[i16], room: Room) -> Validity
     ensures { λ r. ⌜ r ≡ validity (lowest (buildRules order lift (now (voltages .entry)) room)) ⌝ }
 {
     if limits::outside(1, 4096, lift) {
@@ -29,8 +30,14 @@ pub fn judge(order: usize, lift: usize, voltages: &[i16], room: usize) -> Validi
     if voltages.len() != 3 * cols {
         return Validity::Refused(Refusal::SteinerLength);
     }
-    if room != order * cols {
+    if room.plan != order * cols {
         return Validity::Refused(Refusal::SteinerLength);
+    }
+    if room.rows != order {
+        return Validity::Refused(Refusal::Weights);
+    }
+    if room.cols != cols {
+        return Validity::Refused(Refusal::Weights);
     }
     Validity::Valid
 }

@@ -1,32 +1,49 @@
-// Steiner triple plans (document 02, slip 6): rows are the points of a triple system, columns its triples.
+// Steiner triple plans (document 02, slips 6 and 7): rows are the points of a triple system, columns its triples.
 ghost use mathlib.Core.Path.{_≡_};
-ghost use lib.ListN.{length};
-ghost use Rattle.refusal.specs.Lowest.{lowest};
-ghost use Rattle.table.specs.Build.{lent};
-ghost use Rattle.steiner.specs.Build.{buildRules, steinerPlan, built};
+ghost use Rattle.refusal.specs.Lent.{lent};
+ghost use Rattle.weights.specs.declared.Side.the-variants.{Bits, Checks};
+ghost use Rattle.steiner.specs.Build.{buildRefusal, steinerPlan, steinerWeights, built};
 
 mod points; // points.rt: the constant list of all triples
 mod system; // system.rt: the orders, and their triples in the list
-mod judge; // judge.rt: refusals 3, 4, 6, 22 and 23 in their order
+mod judge; // judge.rt: refusals 3, 4, 6, 22, 23 and 25 in their order
 mod write; // write.rt: the plan, written row by row
 
+use exponent::Shape;
 use exponent::Validity;
 use table::Built;
+use weights::Room;
 
-// Writes the plan of a triple system and one voltage for each point of each triple, or turns the caller away and leaves the lent plan as it is.
-pub fn build(order: usize, lift: usize, voltages: &[i16], plan: &mut [i16]) -> Built
-    ensures answer { λ r. ⌜ r ≡ built (lowest (buildRules order lift (now (voltages .entry)) (length (now (plan .entry))))) order ⌝ }
-    ensures place { λ r. ⌜ now (plan .exit) ≡ lent (lowest (buildRules order lift (now (voltages .entry)) (length (now (plan .entry)))))
+// Writes the plan of a triple system and one voltage for each point of each triple, and its weights, or turns the caller away and
+// leaves all three lent lists as they are.
+pub fn build(
+    order: usize,
+    lift: usize,
+    voltages: &[i16],
+    plan: &mut [i16],
+    row_weights: &mut [u16],
+    col_weights: &mut [u16],
+) -> Built
+    ensures answer { λ r. ⌜ r ≡ built (buildRefusal order lift (now (voltages .entry)) (now (plan .entry)) (now («row_weights» .entry)) (now («col_weights» .entry))) order ⌝ }
+    ensures place { λ _. ⌜ now (plan .exit) ≡ lent (buildRefusal order lift (now (voltages .entry)) (now (plan .entry)) (now («row_weights» .entry)) (now («col_weights» .entry)))
         (steinerPlan order lift (now (voltages .entry))) (now (plan .entry)) ⌝ }
+    ensures rows { λ _. ⌜ now («row_weights» .exit) ≡ lent (buildRefusal order lift (now (voltages .entry)) (now (plan .entry)) (now («row_weights» .entry)) (now («col_weights» .entry)))
+        (steinerWeights order lift (now (voltages .entry)) Checks) (now («row_weights» .entry)) ⌝ }
+    ensures cols { λ _. ⌜ now («col_weights» .exit) ≡ lent (buildRefusal order lift (now (voltages .entry)) (now (plan .entry)) (now («row_weights» .entry)) (now («col_weights» .entry)))
+        (steinerWeights order lift (now (voltages .entry)) Bits) (now («col_weights» .entry)) ⌝ }
 {
-    let room = plan.len();
+    let room = Room {
+        plan: plan.len(),
+        rows: row_weights.len(),
+        cols: col_weights.len(),
+    };
     match judge::judge(order, lift, voltages, room) {
         Validity::Valid => {
+            let rows = order;
+            let cols = system::cols(order);
             write::fill(order, lift, voltages, plan);
-            Built::Built {
-                rows: order,
-                cols: system::cols(order),
-            }
+            weights::fill(plan, Shape { rows, cols, lift }, row_weights, col_weights);
+            Built::Built { rows, cols }
         }
         Validity::Refused(r) => Built::Refused(r),
     }

@@ -1,7 +1,7 @@
 use crate::system;
 use square::signed;
 ghost use mathlib.Core.Path.{_≡_};
-ghost use Prim.Native.Nat.{_*_, _<_, _≤_};
+ghost use Prim.Native.Nat.{_*_, _<_};
 ghost use lib.ListN.{length};
 ghost use Rattle.steiner.specs.System.{cols};
 ghost use Rattle.steiner.specs.Build.{Ready, entry, steinerPlan};

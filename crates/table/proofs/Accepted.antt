@@ -15,6 +15,7 @@ use Rattle.refusal.specs.Lowest.{lowest}
 use Rattle.refusal.proofs.Lowest.{none-append, NoneHolds, none-holds}
 use Rattle.graph.proofs.Decide.{neither}
 use Rattle.exponent.proofs.Rules.{inside}
+use Rattle.weights.specs.declared.Room.{Room}
 use Rattle.square.specs.Table.{tableAt, unsound}
 use Rattle.square.specs.Mask.{maskAt, weight, Common}
 use Rattle.square.proofs.Weights.{weight-common}
@@ -23,6 +24,7 @@ use Rattle.grid.proofs.Shape.{plan-length}
 use Rattle.table.specs.declared.judge.Verdict.the-variants.{Accepted, Refused}
 use Rattle.table.specs.Build.{tableRules, maskRules, buildRules, verdict}
 use Rattle.table.specs.Write.{Ready}
+use Rattle.weights.proofs.Lengths.{fit-lengths}
 
 -- what a verdict tells of the rules
 pub accepts : (o : Option Refusal) (n m : ℕ) → Accepted m ≡ verdict o n → (o ≡ none) × (m ≡ n)
@@ -58,26 +60,31 @@ table-taken order lift table e = taken (none-holds (tableRules order lift table)
         }
 
 -- everything passed
-pub record Taken (order lift : ℕ) (table : List ℤ) (mask : List ℕ) (room : ℕ) : Type 0 where
+pub record Taken (order lift : ℕ) (table : List ℤ) (mask : List ℕ) (room : Room) : Type 0 where
   pub of-table : TableTaken order lift table
   pub mask-whole : length mask ≡ order * order
   pub of-mask : Common order mask (weight order mask)
   pub few-bits : planCols order (weight order mask) * lift ≤ 65536
-  pub place : room ≡ planRows order (weight order mask) * planCols order (weight order mask)
+  pub place : room .plan ≡ planRows order (weight order mask) * planCols order (weight order mask)
+  pub row-list : room .rows ≡ planRows order (weight order mask)
+  pub col-list : room .cols ≡ planCols order (weight order mask)
 
-module _ (order lift : ℕ) (table : List ℤ) (mask : List ℕ) (room : ℕ) where
+module _ (order lift : ℕ) (table : List ℤ) (mask : List ℕ) (room : Room) where
   pub taken : lowest (buildRules order lift table mask room) ≡ none → Taken order lift table mask room
   unfolding buildRules maskRules
   taken e = let (t, m) = none-append (tableRules order lift table) (maskRules order lift mask room) .0 e in all t (none-holds (maskRules order lift mask room) .0 m)
     where
       all : lowest (tableRules order lift table) ≡ none → NoneHolds (maskRules order lift mask room) → Taken order lift table mask room
-      all t (b, (w, (f, (p, _)))) =
+      all t (b, (w, (f, (p, l)))) =
+          let (rows, cols) = fit-lengths room _ _ l in
           record {
             of-table = table-taken order lift table t;
             mask-whole = eqb-true _ _ (not-false _ (neither (not (eqb (length mask) (order * order))) _ b .0));
             of-mask = weight-common order mask (not-false _ w);
             few-bits = ltb-false _ _ f;
             place = eqb-true _ _ (not-false _ p);
+            row-list = rows;
+            col-list = cols;
           }
 
   pub ready : Taken order lift table mask room → Ready (record { order = order; weight = weight order mask; lift = lift }) table mask
@@ -90,5 +97,5 @@ module _ (order lift : ℕ) (table : List ℤ) (mask : List ℕ) (room : ℕ) wh
         small-lift = a .of-table .small-lift;
       }
 
-  pub place-fits : Taken order lift table mask room → room ≡ length (tablePlan order (weight order mask) lift (tableAt order table) (maskAt order mask))
+  pub place-fits : Taken order lift table mask room → room .plan ≡ length (tablePlan order (weight order mask) lift (tableAt order table) (maskAt order mask))
   place-fits a = a .place ∙ sym (plan-length order (weight order mask) lift (tableAt order table) mask (a .of-mask))

@@ -16,6 +16,7 @@ use Rattle.exponent.specs.Plan.{invalidEntry, blockAt, filled}
 use Rattle.exponent.specs.Limits.{planRules, WellFormed}
 use Rattle.exponent.specs.Tanner.{tanner, columnWeight, rowWeight, ThreeBlocks}
 use Rattle.exponent.proofs.Rules.{accepted}
+use Rattle.weights.specs.declared.Room.{Room}
 use Rattle.square.specs.Table.{tableAt}
 use Rattle.square.specs.Mask.{maskAt, weight, Common}
 use Rattle.square.proofs.Places.{square}
@@ -31,7 +32,7 @@ use Rattle.table.specs.Build.{supplyRules, tableRules, maskRules, buildR
 use Rattle.table.proofs.Accepted.{taken}
 
 -- the numbers of the refusals rise, whatever is lent
-pub rules-rise : (order lift : ℕ) (table : List ℤ) (mask : List ℕ) (room : ℕ) → rising (buildRules order lift table mask room) ≡ true
+pub rules-rise : (order lift : ℕ) (table : List ℤ) (mask : List ℕ) (room : Room) → rising (buildRules order lift table mask room) ≡ true
 unfolding buildRules tableRules maskRules
 rules-rise order lift table mask room = refl
 
@@ -107,7 +108,7 @@ pub record GoodPlan (plan : List ℤ) (rows cols lift L : ℕ) : Type 0 where
   pub passes : Passes (tanner plan rows cols lift) 12
 
 -- THE THEOREM: every plan that `build` builds
-pub built-is-good : (order lift : ℕ) (table : List ℤ) (mask : List ℕ) (room : ℕ) → lowest (buildRules order lift table mask room) ≡ none
+pub built-is-good : (order lift : ℕ) (table : List ℤ) (mask : List ℕ) (room : Room) → lowest (buildRules order lift table mask room) ≡ none
     → GoodPlan (builtPlan order lift table mask) (planRows order (weight order mask)) (planCols order (weight order mask)) lift (weight order mask)
 unfolding builtPlan ThreeBlocks
 built-is-good order lift table mask room e =

@@ -1,4 +1,5 @@
--- The answers of the calls (document 01, "Turned away"): the refusals in rising order of number, and what the lent memory then holds.
+-- The answers of the calls (document 01, "Turned away", and document 02, slip 7): the refusals in rising order of number, and what the
+-- lent memory then holds.
 use Prim.Native.Nat.{ℕ, _*_}
 use mathlib.Core.Bool.{not, _||_}
 use mathlib.Core.List.{List, [], _∷_, _++_}
@@ -8,9 +9,12 @@ use lib.IntN.{ℤ}
 use lib.ListN.{length}
 use Rattle.refusal.specs.declared.Refusal.{Refusal}
 use Rattle.refusal.specs.declared.Refusal.the-variants.{Lift, Order, TableLength, NegativeEntry, Unsound, MaskByte, MaskWeight, TableBits, PlanPlace}
-use Rattle.refusal.specs.Lowest.{Rule, refuse}
+use Rattle.refusal.specs.Lowest.{Rule, refuse, lowest}
 use Rattle.refusal.specs.Place.{firstPlace, somewhere}
 use Rattle.exponent.specs.Limits.{outside}
+use Rattle.weights.specs.declared.Side.{Side}
+use Rattle.weights.specs.declared.Room.{Room}
+use Rattle.weights.specs.Weights.{shapeOf, weightsOf, roomOf, lengthRules}
 use Rattle.square.specs.declared.search.Quad.{Quad}
 use Rattle.square.specs.Table.{tableAt, negative, unsound, firstRepeat}
 use Rattle.square.specs.Mask.{maskAt, common, weight}
@@ -21,11 +25,6 @@ use Rattle.table.specs.declared.Built.{Built as BuiltAnswer}
 use Rattle.table.specs.declared.Built.the-variants.{Built, Refused as NotBuilt}
 use Rattle.table.specs.declared.judge.Verdict.{Verdict}
 use Rattle.table.specs.declared.judge.Verdict.the-variants.{Accepted, Refused}
-
--- what lent memory holds: the new list, or what it held where there is a refusal
-abbrev pub lent : Option Refusal → List ℤ → List ℤ → List ℤ
-lent none new old = new
-lent (some r) new old = old
 
 -- SUPPLIED TABLES. The order is 4 to 7, the place order² long.
 unfoldable pub supplyRules : ℕ → ℕ → List Rule
@@ -48,21 +47,31 @@ tableRules order lift table =
     ∷ refuse (unsoundAt (firstRepeat order lift (tableAt order table))) (unsound order lift (tableAt order table))
     ∷ []
 
--- the mask's bytes and common weight L, at most 65,536 bits, and a lent place of exactly 3LJ × JL².
-unfoldable pub maskRules : ℕ → ℕ → List ℕ → ℕ → List Rule
+-- the mask's bytes and common weight L, at most 65,536 bits, a lent place of exactly 3LJ × JL², and lists of 3LJ and JL² weights.
+unfoldable pub maskRules : ℕ → ℕ → List ℕ → Room → List Rule
 maskRules order lift mask room =
+    let rows = planRows order (weight order mask) in
+    let cols = planCols order (weight order mask) in
     refuse MaskByte (not (eqb (length mask) (order * order)) || somewhere (ltb 1) mask)
     ∷ refuse MaskWeight (not (common order mask))
-    ∷ refuse TableBits (ltb 65536 (planCols order (weight order mask) * lift))
-    ∷ refuse PlanPlace (not (eqb room (planRows order (weight order mask) * planCols order (weight order mask))))
-    ∷ []
+    ∷ refuse TableBits (ltb 65536 (cols * lift))
+    ∷ refuse PlanPlace (not (eqb (room .plan) (rows * cols)))
+    ∷ lengthRules room rows cols
 
-unfoldable pub buildRules : ℕ → ℕ → List ℤ → List ℕ → ℕ → List Rule
+unfoldable pub buildRules : ℕ → ℕ → List ℤ → List ℕ → Room → List Rule
 buildRules order lift table mask room = tableRules order lift table ++ maskRules order lift mask room
 
--- the plan that is then built, and the answer
+-- why a call with these three lent lists is refused, if it is
+abbrev pub buildRefusal : ℕ → ℕ → List ℤ → List ℕ → List ℤ → List ℕ → List ℕ → Option Refusal
+buildRefusal order lift table mask plan rows cols = lowest (buildRules order lift table mask (roomOf plan rows cols))
+
+-- the plan that is then built, the weights of its rows and of its columns, and the answer
 unfoldable pub builtPlan : ℕ → ℕ → List ℤ → List ℕ → List ℤ
 builtPlan order lift table mask = tablePlan order (weight order mask) lift (tableAt order table) (maskAt order mask)
+
+unfoldable pub builtWeights : ℕ → ℕ → List ℤ → List ℕ → Side → List ℕ
+builtWeights order lift table mask side =
+    weightsOf (builtPlan order lift table mask) (shapeOf (planRows order (weight order mask)) (planCols order (weight order mask)) lift) side
 
 abbrev pub verdict : Option Refusal → ℕ → Verdict
 verdict none L = Accepted L

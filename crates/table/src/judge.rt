@@ -2,6 +2,7 @@ use exponent::limits;
 use refusal::Refusal;
 use square::mask;
 use square::search;
+use weights::Room;
 ghost use mathlib.Core.Path.{_≡_};
 ghost use Prim.Native.Nat.{_<_, _≤_};
 ghost use Rattle.refusal.specs.Lowest.{lowest};
@@ -44,8 +45,8 @@ fn judge_table(order: usize, lift: usize, table: &[i16]) -> Verdict
     Verdict::Accepted(0)
 }
 
-// Refusals 11, 12, 13 and 15.
-fn judge_mask(order: usize, lift: usize, mask: &[u8], room: usize) -> Verdict
+// Refusals 11, 12, 13, 15 and 25.
+fn judge_mask(order: usize, lift: usize, mask: &[u8], room: Room) -> Verdict
     requires { ⌜ (0 < order) × (order < 8) × (lift ≤ 4096) ⌝ }
     ensures { λ r. ⌜ r ≡ verdict (lowest (maskRules order lift (now (mask .entry)) room)) (weight order (now (mask .entry))) ⌝ }
 {
@@ -63,14 +64,21 @@ fn judge_mask(order: usize, lift: usize, mask: &[u8], room: usize) -> Verdict
     if 65536 < cols * lift {
         return Verdict::Refused(Refusal::TableBits);
     }
-    if room != 3 * (weight * order) * cols {
+    let rows = 3 * (weight * order);
+    if room.plan != rows * cols {
         return Verdict::Refused(Refusal::PlanPlace);
+    }
+    if room.rows != rows {
+        return Verdict::Refused(Refusal::Weights);
+    }
+    if room.cols != cols {
+        return Verdict::Refused(Refusal::Weights);
     }
     Verdict::Accepted(weight)
 }
 
 // All refusals of the builder, the lowest first.
-pub fn judge(order: usize, lift: usize, table: &[i16], mask: &[u8], room: usize) -> Verdict
+pub fn judge(order: usize, lift: usize, table: &[i16], mask: &[u8], room: Room) -> Verdict
     ensures { λ r. ⌜ r ≡ verdict (lowest (buildRules order lift (now (table .entry)) (now (mask .entry)) room)) (weight order (now (mask .entry))) ⌝ }
 {
     match judge_table(order, lift, table) {

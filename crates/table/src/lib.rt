@@ -2,18 +2,22 @@
 ghost use mathlib.Core.Path.{_≡_};
 ghost use lib.ListN.{length};
 ghost use Rattle.refusal.specs.Lowest.{lowest};
+ghost use Rattle.refusal.specs.Lent.{lent};
+ghost use Rattle.weights.specs.declared.Side.the-variants.{Bits, Checks};
 ghost use Rattle.square.specs.declared.supply.Family.the-variants.{Array, Cyclic};
 ghost use Rattle.square.specs.Table.{suppliedTable};
 ghost use Rattle.square.specs.Mask.{weight};
-ghost use Rattle.table.specs.Build.{lent, supplyRules, supplied, buildRules, builtPlan, built};
+ghost use Rattle.table.specs.Build.{supplyRules, supplied, buildRefusal, builtPlan, builtWeights, built};
 
 mod write; // write.rt: the plan, written row by row
-mod judge; // judge.rt: refusals 3, 7 to 13 and 15 in their order
+mod judge; // judge.rt: refusals 3, 7 to 13, 15 and 25 in their order
 pub mod supply; // supply.rt: a supplied table, or refusals 7 and 8
 
+use exponent::Shape;
 use judge::Verdict;
 use refusal::Refusal;
 use square::supply::Family;
+use weights::Room;
 use write::Size;
 
 // What a call that supplies a table answers.
@@ -44,30 +48,42 @@ pub fn cyclic(order: usize, table: &mut [i16]) -> Supplied
     supply::supply(Family::Cyclic, order, table)
 }
 
-// Writes the plan of a table and a mask, or turns the caller away and leaves the lent plan as it is.
-pub fn build(order: usize, lift: usize, table: &[i16], mask: &[u8], plan: &mut [i16]) -> Built
-    ensures answer { λ r. ⌜ r ≡ built (lowest (buildRules order lift (now (table .entry)) (now (mask .entry)) (length (now (plan .entry)))))
+// Writes the plan of a table and a mask, and its weights, or turns the caller away and leaves all three lent lists as they are.
+pub fn build(
+    order: usize,
+    lift: usize,
+    table: &[i16],
+    mask: &[u8],
+    plan: &mut [i16],
+    row_weights: &mut [u16],
+    col_weights: &mut [u16],
+) -> Built
+    ensures answer { λ r. ⌜ r ≡ built (buildRefusal order lift (now (table .entry)) (now (mask .entry)) (now (plan .entry)) (now («row_weights» .entry)) (now («col_weights» .entry)))
         order (weight order (now (mask .entry))) ⌝ }
-    ensures place { λ r. ⌜ now (plan .exit) ≡ lent (lowest (buildRules order lift (now (table .entry)) (now (mask .entry)) (length (now (plan .entry)))))
+    ensures place { λ _. ⌜ now (plan .exit) ≡ lent (buildRefusal order lift (now (table .entry)) (now (mask .entry)) (now (plan .entry)) (now («row_weights» .entry)) (now («col_weights» .entry)))
         (builtPlan order lift (now (table .entry)) (now (mask .entry))) (now (plan .entry)) ⌝ }
+    ensures rows { λ _. ⌜ now («row_weights» .exit) ≡ lent (buildRefusal order lift (now (table .entry)) (now (mask .entry)) (now (plan .entry)) (now («row_weights» .entry)) (now («col_weights» .entry)))
+        (builtWeights order lift (now (table .entry)) (now (mask .entry)) Checks) (now («row_weights» .entry)) ⌝ }
+    ensures cols { λ _. ⌜ now («col_weights» .exit) ≡ lent (buildRefusal order lift (now (table .entry)) (now (mask .entry)) (now (plan .entry)) (now («row_weights» .entry)) (now («col_weights» .entry)))
+        (builtWeights order lift (now (table .entry)) (now (mask .entry)) Bits) (now («col_weights» .entry)) ⌝ }
 {
-    let room = plan.len();
+    let room = Room {
+        plan: plan.len(),
+        rows: row_weights.len(),
+        cols: col_weights.len(),
+    };
     match judge::judge(order, lift, table, mask, room) {
         Verdict::Accepted(weight) => {
-            write::fill(
-                table,
-                mask,
-                Size {
-                    order,
-                    weight,
-                    lift,
-                },
-                plan,
-            );
-            Built::Built {
-                rows: 3 * (weight * order),
-                cols: order * (weight * weight),
-            }
+            let size = Size {
+                order,
+                weight,
+                lift,
+            };
+            let rows = 3 * (weight * order);
+            let cols = order * (weight * weight);
+            write::fill(table, mask, size, plan);
+            weights::fill(plan, Shape { rows, cols, lift }, row_weights, col_weights);
+            Built::Built { rows, cols }
         }
         Verdict::Refused(r) => Built::Refused(r),
     }

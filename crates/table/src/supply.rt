@@ -5,8 +5,9 @@ use square::supply::Family;
 ghost use mathlib.Core.Path.{_≡_};
 ghost use lib.ListN.{length};
 ghost use Rattle.refusal.specs.Lowest.{lowest};
+ghost use Rattle.refusal.specs.Lent.{lent};
 ghost use Rattle.square.specs.Table.{suppliedTable};
-ghost use Rattle.table.specs.Build.{lent, supplyRules, supplied};
+ghost use Rattle.table.specs.Build.{supplyRules, supplied};
 
 // Writes a supplied table, or turns the caller away.
 pub fn supply(family: Family, order: usize, table: &mut [i16]) -> Supplied

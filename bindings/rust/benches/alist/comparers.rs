@@ -81,13 +81,13 @@ fn compare(lists: &Lists, text: &[u8]) -> Result<(), usize> {
 }
 
 fn same_work(plan: &OwnedPlan, text: &[u8]) -> Result<(), usize> {
-    judge(plan).expect("the plan is good");
+    judge(&plan.lent()).expect("the plan is good");
     compare(&lists(plan), text)
 }
 
 // The proved comparer; of a refusal the place.
 fn proved(plan: &OwnedPlan, text: &[u8]) -> Result<(), usize> {
-    qcldpc::alist_compare(&plan.lent(), text).map_err(|refusal| refusal.values[0] as usize)
+    plan.agrees(text).map_err(|refusal| refusal.values[0] as usize)
 }
 
 /// All comparers in turn over one text, best of 7 each.

@@ -1,5 +1,6 @@
 //! Sparse lists of a plan, and a walk over the numbers of its alist.
 use crate::common::{shift, OwnedPlan};
+use qcldpc::Plan;
 
 /// The filled blocks of each row (its columns, with their shifts) and of each column (its rows), in
 /// 32-bit numbers: with 64 bits the references take a tenth longer.
@@ -10,18 +11,19 @@ pub struct Lists {
 }
 
 pub fn lists(plan: &OwnedPlan) -> Lists {
-    let mut by_row = vec![vec![]; plan.rows];
-    let mut by_col = vec![vec![]; plan.cols];
-    for (i, row) in plan.entries.chunks_exact(plan.cols).enumerate() {
+    let Plan { entries, rows, cols, lift } = plan.lent();
+    let mut by_row = vec![vec![]; rows];
+    let mut by_col = vec![vec![]; cols];
+    for (i, row) in entries.chunks_exact(cols).enumerate() {
         for (j, &e) in row.iter().enumerate() {
             if e >= 0 {
-                let e = shift(e, plan.lift) as u32;
+                let e = shift(e, lift) as u32;
                 by_row[i].push((j as u32, e));
                 by_col[j].push((i as u32, e));
             }
         }
     }
-    Lists { by_row, by_col, lift: plan.lift as u32 }
+    Lists { by_row, by_col, lift: lift as u32 }
 }
 
 /// Whether short lists are filled up with 0.

@@ -13,25 +13,32 @@
 //! two plain Rust comparers that read token by token against the numbers that they expect, in the padded form and, where the
 //! text departs from it, in the unpadded form. The one with the "same work for each text" judges the plan and builds its sparse
 //! lists first; the one with the "plan prepared once" only reads.
+//!
+//! The call that changes one block runs on the largest plan (192 rows, 512 columns, lift 128), with all blocks filled, and on
+//! the cyclic table plan of order 7. The last block is emptied and filled in turn. Beside it stands a plain Rust change that
+//! judges the plan, counts its weights anew and holds the lent lists to them, and then changes the entry and the two weights.
+//!
+//! Plans have their weights before the clock starts.
+mod changes;
 #[path = "../common/mod.rs"]
 mod common;
 mod comparers;
 mod lists;
 mod writers;
 
-use common::{cyclic_plan, printed, OwnedPlan};
+use common::{cyclic_plan, plan_of, printed, OwnedPlan};
 use lists::Form;
 use writers::text;
 
 // The plan with every seventh filled block emptied.
 fn irregular(plan: &OwnedPlan) -> OwnedPlan {
-    let mut plan = plan.clone();
-    plan.entries.iter_mut().filter(|entry| **entry >= 0).skip(6).step_by(7).for_each(|entry| *entry = -1);
-    plan
+    let mut entries = plan.entries().to_vec();
+    entries.iter_mut().filter(|entry| **entry >= 0).skip(6).step_by(7).for_each(|entry| *entry = -1);
+    plan_of(entries, plan.rows(), plan.cols(), plan.lift())
 }
 
 fn main() {
-    let plan = cyclic_plan(6, 46, &[1; 36], 6);
+    let plan = cyclic_plan(6, 46, &[1; 36]);
     let padded = text(&plan, Form::Padded);
     println!("alist of {} bits, {} bytes", plan.bits(), padded.len());
     writers::beside("exact", &plan, padded.len());
@@ -41,4 +48,7 @@ fn main() {
     let irregular = irregular(&plan);
     comparers::beside("unpadded", &irregular, &text(&irregular, Form::Unpadded), Ok(()));
     comparers::beside("wrong", &plan, &[&padded[..], b"0"].concat(), Err(padded.len()));
+    let largest = plan_of((0..192 * 512).map(|k| (k % 128) as i16).collect(), 192, 512, 128);
+    changes::beside("largest plan", &largest);
+    changes::beside("cyclic table, J = 7", &cyclic_plan(7, 28, &[1; 49]));
 }

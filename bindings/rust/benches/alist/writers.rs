@@ -1,6 +1,7 @@
 //! The proved writer beside plain ones.
 use crate::common::{judge, timed, OwnedPlan};
 use crate::lists::{all_lines, digits, lists, Form, Lists, Sink};
+use qcldpc::Refusal;
 use std::convert::Infallible;
 use std::hint::black_box;
 use std::time::Duration;
@@ -69,17 +70,22 @@ pub fn text(plan: &OwnedPlan, form: Form) -> Vec<u8> {
 }
 
 fn write_at_once(plan: &OwnedPlan, text: &mut [u8]) -> Result<usize, u64> {
-    judge(plan)?;
+    judge(&plan.lent())?;
     Ok(write(&lists(plan), Form::Padded, text))
 }
 
 fn measure_and_write(plan: &OwnedPlan, text: &mut [u8]) -> Result<usize, u64> {
-    judge(plan)?;
+    judge(&plan.lent())?;
     let lists = lists(plan);
     if text.len() < length(&lists, Form::Padded) {
         return Err(17);
     }
     Ok(write(&lists, Form::Padded, text))
+}
+
+// The proved writer, with the weights that the plan has counted before.
+fn proved(plan: &OwnedPlan, text: &mut [u8]) -> Result<usize, Refusal> {
+    qcldpc::alist_write(&plan.lent(), plan.row_weights(), plan.col_weights(), text)
 }
 
 /// All writers in turn over a place of their own, best of 7 each.
@@ -89,7 +95,7 @@ pub fn beside(name: &str, plan: &OwnedPlan, room: usize) {
     let [a, b, c, d] = &mut places;
     let mut best = [Duration::MAX; 4];
     for _ in 0..7 {
-        let n = timed(&mut best[0], || qcldpc::alist_write(&black_box(plan).lent(), black_box(a))).unwrap();
+        let n = timed(&mut best[0], || proved(black_box(plan), black_box(a))).unwrap();
         let m = timed(&mut best[1], || measure_and_write(black_box(plan), black_box(b))).unwrap();
         let k = timed(&mut best[2], || write_at_once(black_box(plan), black_box(c))).unwrap();
         let p = timed(&mut best[3], || write(black_box(once), Form::Padded, black_box(d)));

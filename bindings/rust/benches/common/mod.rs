@@ -1,27 +1,32 @@
 //! What the benchmarks share: table plans, what the references do with a plan, numbers, and the clock.
 #![allow(dead_code)] // each benchmark uses a part
 pub use qcldpc::OwnedPlan;
+use qcldpc::Plan;
 use std::hint::black_box;
 use std::time::{Duration, Instant};
 
-/// The plan of the cyclic table of an order, with a mask of `weight` ones in each row and column.
-pub fn cyclic_plan(order: usize, lift: usize, mask: &[u8], weight: usize) -> OwnedPlan {
+/// The plan of entries that are not refused.
+pub fn plan_of(entries: Vec<i16>, rows: usize, cols: usize, lift: usize) -> OwnedPlan {
+    OwnedPlan::new(entries, rows, cols, lift).expect("a good plan")
+}
+
+/// The plan of the cyclic table of an order, with a mask.
+pub fn cyclic_plan(order: usize, lift: usize, mask: &[u8]) -> OwnedPlan {
     let mut table = vec![0; order * order];
     qcldpc::cyclic_table(order, &mut table).unwrap();
-    let mut entries = vec![0; 3 * weight * order * order * weight * weight];
-    let built = qcldpc::build(order, lift, &table, mask, &mut entries).unwrap();
-    OwnedPlan { entries, rows: built.rows, cols: built.cols, lift }
+    OwnedPlan::build(order, lift, &table, mask).unwrap()
 }
 
 /// The plan with voltages as some program may print them: one to five times the lift above their remainders.
 pub fn printed(plan: &OwnedPlan) -> OwnedPlan {
-    let above = |(k, &e): (usize, &i16)| if e < 0 { e } else { e + ((1 + k % 5) * plan.lift) as i16 };
-    OwnedPlan { entries: plan.entries.iter().enumerate().map(above).collect(), ..*plan }
+    let Plan { entries, rows, cols, lift } = plan.lent();
+    let above = |(k, &e): (usize, &i16)| if e < 0 { e } else { e + ((1 + k % 5) * lift) as i16 };
+    plan_of(entries.iter().enumerate().map(above).collect(), rows, cols, lift)
 }
 
 /// Refusals 1 to 6, as a plain implementation finds them.
-pub fn judge(plan: &OwnedPlan) -> Result<(), u64> {
-    let OwnedPlan { entries, rows, cols, lift } = plan;
+pub fn judge(plan: &Plan) -> Result<(), u64> {
+    let Plan { entries, rows, cols, lift } = plan;
     match () {
         _ if !(1..=192).contains(rows) => Err(1),
         _ if !(1..=512).contains(cols) => Err(2),

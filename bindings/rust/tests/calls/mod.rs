@@ -1,10 +1,12 @@
 //! Calls of every function of the C interface, at the largest sizes and refused. All lent memory is made before the call and
 //! stands on the heap, so that the stack is the call's own.
 mod builders;
+mod changes;
 mod plans;
 mod steiner;
 mod tables;
 mod texts;
+mod weights;
 mod words;
 
 use qcldpc::Refusal;
@@ -32,6 +34,7 @@ pub const FUNCTIONS: &[Function] = &[
     Function { name: "qcldpc_cyclic_table", largest: tables::cyclic, refused: tables::cyclic_refused },
     Function { name: "qcldpc_build", largest: tables::build, refused: tables::build_refused },
     Function { name: "qcldpc_steiner", largest: steiner::build, refused: steiner::build_refused },
+    Function { name: "qcldpc_change", largest: changes::change, refused: changes::change_refused },
     Function { name: "qcldpc_alist_write", largest: texts::write, refused: texts::write_refused },
     Function { name: "qcldpc_alist_compare", largest: texts::compare, refused: texts::compare_refused },
 ];

@@ -1,10 +1,15 @@
 //! The largest plans and refused ones; the plan check and the girth test of them.
 use super::{expect, refusal, tables, Call};
-use qcldpc::{Girth, OwnedPlan, Refusal};
+use qcldpc::{Girth, OwnedPlan, Plan, Refusal};
 use std::fmt::Debug;
 
+// The entries of a plan, row by row.
+fn entries_of(rows: usize, cols: usize, entry: impl Fn(usize, usize) -> i16) -> Vec<i16> {
+    (0..rows * cols).map(|k| entry(k / cols, k % cols)).collect()
+}
+
 fn plan_of(rows: usize, cols: usize, lift: usize, entry: impl Fn(usize, usize) -> i16) -> OwnedPlan {
-    OwnedPlan { entries: (0..rows * cols).map(|k| entry(k / cols, k % cols)).collect(), rows, cols, lift }
+    OwnedPlan::new(entries_of(rows, cols, entry), rows, cols, lift).expect("a good plan")
 }
 
 /// Row i has blocks in columns i and i + 1 alone, so that one known column gives the next.
@@ -35,23 +40,26 @@ fn ring(n: usize) -> OwnedPlan {
     })
 }
 
-// A plan for each of refusals 1 to 6, with the refusal.
-fn refused() -> [(OwnedPlan, Refusal); 6] {
-    let zeros = |rows, cols, lift| plan_of(rows, cols, lift, |_, _| 0);
-    let short = OwnedPlan { entries: vec![0; 192 * 512 - 1], ..zeros(192, 512, 128) };
+// Entries, rows, columns and lift for each of refusals 1 to 6, with the refusal.
+fn refused() -> [(Vec<i16>, [usize; 3], Refusal); 6] {
+    let zeros = |rows: usize, cols: usize| vec![0; rows * cols];
+    let last = |bad| entries_of(192, 512, |i, j| if i == 191 && j == 511 { bad } else { -1 });
     [
-        (zeros(193, 512, 128), refusal(1, &[])),
-        (zeros(192, 513, 127), refusal(2, &[])),
-        (zeros(192, 15, 4097), refusal(3, &[])),
-        (zeros(192, 512, 129), refusal(4, &[])),
-        (short, refusal(5, &[])),
-        (plan_of(192, 512, 128, |i, j| if i == 191 && j == 511 { -2 } else { -1 }), refusal(6, &[192 * 512 - 1])),
+        (zeros(193, 512), [193, 512, 128], refusal(1, &[])),
+        (zeros(192, 513), [192, 513, 127], refusal(2, &[])),
+        (zeros(192, 15), [192, 15, 4097], refusal(3, &[])),
+        (zeros(192, 512), [192, 512, 129], refusal(4, &[])),
+        (vec![0; 192 * 512 - 1], [192, 512, 128], refusal(5, &[])),
+        (last(-2), [192, 512, 128], refusal(6, &[192 * 512 - 1])),
     ]
 }
 
 /// A call on each refused plan.
-pub fn turned_away<T: PartialEq + Debug + Send + 'static>(call: fn(&OwnedPlan) -> Result<T, Refusal>) -> Vec<Call> {
-    refused().into_iter().map(|(plan, wanted)| expect(move || call(&plan), Err(wanted))).collect()
+pub fn turned_away<T: PartialEq + Debug + Send + 'static>(call: fn(&Plan) -> Result<T, Refusal>) -> Vec<Call> {
+    let refuse = |(entries, [rows, cols, lift], wanted): (Vec<i16>, [usize; 3], Refusal)| {
+        expect(move || call(&Plan { entries: &entries, rows, cols, lift }), Err(wanted))
+    };
+    refused().into_iter().map(refuse).collect()
 }
 
 pub fn check() -> Vec<Call> {
@@ -60,17 +68,17 @@ pub fn check() -> Vec<Call> {
 }
 
 pub fn check_refused() -> Vec<Call> {
-    turned_away(|plan| qcldpc::check(&plan.lent()))
+    turned_away(qcldpc::check)
 }
 
-fn joins(plan: &OwnedPlan, check: usize, bit: usize) -> bool {
+fn joins(plan: &Plan, check: usize, bit: usize) -> bool {
     let e = plan.entries[check / plan.lift * plan.cols + bit / plan.lift];
     e >= 0 && (check + e as usize) % plan.lift == bit % plan.lift
 }
 
 // How many checks the shown cycle has, which must be one; 0 where the plan passes.
-fn shown(plan: &OwnedPlan, target: usize) -> Result<usize, Refusal> {
-    let Girth::Failed { checks, bits } = qcldpc::girth(&plan.lent(), target)? else { return Ok(0) };
+fn shown(plan: &Plan, target: usize) -> Result<usize, Refusal> {
+    let Girth::Failed { checks, bits } = qcldpc::girth(plan, target)? else { return Ok(0) };
     let n = checks.len();
     assert!((0..n).all(|k| joins(plan, checks[k], bits[k]) && joins(plan, checks[(k + 1) % n], bits[k])), "no cycle");
     Ok(n)
@@ -78,7 +86,7 @@ fn shown(plan: &OwnedPlan, target: usize) -> Result<usize, Refusal> {
 
 pub fn girth() -> Vec<Call> {
     let mut calls = vec![];
-    let mut add = |plan: OwnedPlan, target, n| calls.push(expect(move || shown(&plan, target), Ok(n)));
+    let mut add = |plan: OwnedPlan, target, n| calls.push(expect(move || shown(&plan.lent(), target), Ok(n)));
     for n in 2..9 {
         let target = 2 * n + 2;
         add(ring(n), target, n);
@@ -92,7 +100,7 @@ pub fn girth() -> Vec<Call> {
 }
 
 pub fn girth_refused() -> Vec<Call> {
-    let mut calls = turned_away(|plan| qcldpc::girth(&plan.lent(), 18));
+    let mut calls = turned_away(|plan| qcldpc::girth(plan, 18));
     let plan = tables::largest_plan();
     calls.push(expect(move || qcldpc::girth(&plan.lent(), 20), Err(refusal(14, &[]))));
     calls

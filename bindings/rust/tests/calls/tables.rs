@@ -1,5 +1,5 @@
 //! The largest tables and table plans.
-use super::builders::{builds, refuses, Builder, Wrong, BEFORE};
+use super::builders::{builds, refuses, Builder, Places, Wrong, BEFORE};
 use super::{expect, refusal, Call};
 use qcldpc::{Built, OwnedPlan, Refusal};
 
@@ -38,36 +38,36 @@ pub fn cyclic_refused() -> Vec<Call> {
     supply_refused(qcldpc::cyclic_table)
 }
 
-// What a plan is built from, and the place for it.
+// What a plan is built from, and the places for it.
 struct Parts {
     order: usize,
     lift: usize,
     table: Vec<i16>,
     mask: Vec<u8>,
-    plan: Vec<i16>,
+    places: Places,
 }
 
 // The cyclic table of an order with the full mask.
 fn parts(order: usize, lift: usize) -> Parts {
-    let plan = vec![BEFORE; 3 * order.pow(5)];
-    Parts { order, lift, table: supplied(qcldpc::cyclic_table, order), mask: vec![1; order * order], plan }
+    let places = Places::new(3 * order * order, order.pow(3));
+    Parts { order, lift, table: supplied(qcldpc::cyclic_table, order), mask: vec![1; order * order], places }
 }
 
 impl Builder for Parts {
     fn build(&mut self) -> Result<Built, Refusal> {
-        qcldpc::build(self.order, self.lift, &self.table, &self.mask, &mut self.plan)
+        let Places { plan, row_weights, col_weights } = &mut self.places;
+        qcldpc::build(self.order, self.lift, &self.table, &self.mask, plan, row_weights, col_weights)
     }
 
-    fn plan(&self) -> &[i16] {
-        &self.plan
+    fn places(&self) -> &Places {
+        &self.places
     }
 }
 
 /// The plan of the largest order at the largest lift that its bits allow.
 pub fn largest_plan() -> OwnedPlan {
-    let mut parts = parts(7, 191);
-    let Built { rows, cols } = parts.build().expect("the table is sound");
-    OwnedPlan { entries: parts.plan, rows, cols, lift: 191 }
+    let Parts { order, lift, table, mask, .. } = parts(7, 191);
+    OwnedPlan::build(order, lift, &table, &mask).expect("the table is sound")
 }
 
 pub fn build() -> Vec<Call> {
@@ -75,7 +75,7 @@ pub fn build() -> Vec<Call> {
 }
 
 pub fn build_refused() -> Vec<Call> {
-    let wrong: [Wrong<Parts>; 9] = [
+    let wrong: [Wrong<Parts>; 11] = [
         (|parts| parts.lift = 4097, refusal(3, &[])),
         (|parts| parts.order = 8, refusal(7, &[])),
         (|parts| parts.table.push(0), refusal(8, &[])),
@@ -84,7 +84,9 @@ pub fn build_refused() -> Vec<Call> {
         (|parts| parts.mask[48] = 2, refusal(11, &[])),
         (|parts| parts.mask[48] = 0, refusal(12, &[])),
         (|parts| parts.lift = 192, refusal(13, &[])),
-        (|parts| parts.plan.push(BEFORE), refusal(15, &[])),
+        (|parts| parts.places.plan.push(BEFORE), refusal(15, &[])),
+        (|parts| _ = parts.places.row_weights.pop(), refusal(25, &[])),
+        (|parts| parts.places.col_weights.push(BEFORE as u16), refusal(25, &[])),
     ];
     refuses(|| parts(7, 191), wrong)
 }

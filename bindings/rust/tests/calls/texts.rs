@@ -1,14 +1,20 @@
 //! The writer and the comparer of alist text on the largest plans.
 use super::plans::{chain, largest, pairs, turned_away};
+use super::weights::{any_weights, weights, wrong_weights, Weights};
 use super::{expect, refusal, tables, Call};
 use qcldpc::{OwnedPlan, Refusal};
 
 // The bytes of a place before a text is written there.
 const BEFORE: u8 = b'x';
 
+// The writer in a place, with the weights that the plan has.
+fn write_in(plan: &OwnedPlan, place: &mut [u8]) -> Result<usize, Refusal> {
+    qcldpc::alist_write(&plan.lent(), plan.row_weights(), plan.col_weights(), place)
+}
+
 // The length of a plan's text, as the refusal of an empty place names it.
 fn length(plan: &OwnedPlan) -> usize {
-    let refusal = qcldpc::alist_write(&plan.lent(), &mut []).expect_err("no text is empty");
+    let refusal = write_in(plan, &mut []).expect_err("no text is empty");
     assert_eq!(refusal.number, 17);
     refusal.values[0] as usize
 }
@@ -16,8 +22,8 @@ fn length(plan: &OwnedPlan) -> usize {
 // The text of a plan.
 fn text(plan: &OwnedPlan) -> Vec<u8> {
     let mut text = vec![BEFORE; length(plan)];
-    assert_eq!(qcldpc::alist_write(&plan.lent(), &mut text), Ok(text.len()));
-    let first = format!("{} {}\n", plan.bits(), plan.rows * plan.lift);
+    assert_eq!(write_in(plan, &mut text), Ok(text.len()));
+    let first = format!("{} {}\n", plan.bits(), plan.rows() * plan.lift());
     assert!(text.starts_with(first.as_bytes()), "the text does not begin with {first}");
     text
 }
@@ -27,7 +33,7 @@ fn writes(plan: &OwnedPlan, places: usize) -> Call {
     let (plan, text, mut lent) = (plan.clone(), text(plan), vec![BEFORE; places]);
     let n = text.len();
     let run = move || {
-        let answer = qcldpc::alist_write(&plan.lent(), &mut lent);
+        let answer = write_in(&plan, &mut lent);
         (answer, lent.starts_with(&text) && lent[n..].iter().all(|&byte| byte == BEFORE))
     };
     expect(run, (Ok(n), true))
@@ -38,13 +44,30 @@ pub fn write() -> Vec<Call> {
     largest().iter().flat_map(|plan| [1, 4].map(|times| writes(plan, times * length(plan)))).collect()
 }
 
+// The writer's refusal, with the place as it was lent.
+fn writes_nothing(plan: &OwnedPlan, [rows, cols]: Weights, places: usize, wanted: Refusal) -> Call {
+    let (plan, mut lent) = (plan.clone(), vec![BEFORE; places]);
+    let run = move || {
+        let answer = qcldpc::alist_write(&plan.lent(), &rows, &cols, &mut lent);
+        (answer, lent.iter().all(|&byte| byte == BEFORE))
+    };
+    expect(run, (Err(wanted), true))
+}
+
+/// A place that is too short by a byte is refused whatever the weights are; wrong weights are where the place has room.
 pub fn write_refused() -> Vec<Call> {
-    let mut calls = turned_away(|plan| qcldpc::alist_write(&plan.lent(), &mut vec![BEFORE; 1 << 20]));
+    let mut calls = turned_away(|plan| {
+        let [rows, cols] = any_weights();
+        qcldpc::alist_write(plan, &rows, &cols, &mut vec![BEFORE; 1 << 20])
+    });
     for plan in largest() {
         let n = length(&plan);
-        let mut lent = vec![BEFORE; n - 1];
-        let run = move || (qcldpc::alist_write(&plan.lent(), &mut lent), lent.iter().all(|&byte| byte == BEFORE));
-        calls.push(expect(run, (Err(refusal(17, &[n as u64])), true)));
+        let mut refused = |weights: Weights, places, wanted| calls.push(writes_nothing(&plan, weights, places, wanted));
+        refused(weights(&plan), n - 1, refusal(17, &[n as u64]));
+        for wrong in wrong_weights(&plan) {
+            refused(wrong.clone(), n - 1, refusal(17, &[n as u64]));
+            refused(wrong, n, refusal(25, &[]));
+        }
     }
     calls
 }
@@ -60,9 +83,9 @@ fn unpadded(text: &[u8]) -> Vec<u8> {
 }
 
 // The comparer of a text, held to its answer.
-fn compares(plan: &OwnedPlan, text: Vec<u8>, wanted: Result<(), Refusal>) -> Call {
+fn compares(plan: &OwnedPlan, [rows, cols]: Weights, text: Vec<u8>, wanted: Result<(), Refusal>) -> Call {
     let plan = plan.clone();
-    expect(move || qcldpc::alist_compare(&plan.lent(), &text), wanted)
+    expect(move || qcldpc::alist_compare(&plan.lent(), &rows, &cols, &text), wanted)
 }
 
 /// In both forms.
@@ -70,7 +93,7 @@ pub fn compare() -> Vec<Call> {
     let both = |plan: &OwnedPlan| {
         let padded = text(plan);
         let unpadded = unpadded(&padded);
-        [padded, unpadded].map(|text| compares(plan, text, Ok(())))
+        [padded, unpadded].map(|text| compares(plan, weights(plan), text, Ok(())))
     };
     largest().iter().chain([&pairs()]).flat_map(both).collect()
 }
@@ -99,9 +122,20 @@ fn departing() -> Vec<(OwnedPlan, Vec<u8>, usize)> {
     all
 }
 
+/// A wrong text is refused whatever the weights are; wrong weights are where the text agrees.
 pub fn compare_refused() -> Vec<Call> {
-    let mut calls = turned_away(|plan| qcldpc::alist_compare(&plan.lent(), b"65536 24576\n"));
-    let refused = |(plan, text, place)| compares(&plan, text, Err(refusal(21, &[place as u64])));
-    calls.extend(departing().into_iter().map(refused));
+    let mut calls = turned_away(|plan| {
+        let [rows, cols] = any_weights();
+        qcldpc::alist_compare(plan, &rows, &cols, b"65536 24576\n")
+    });
+    for (plan, text, place) in departing() {
+        let [first, ..] = wrong_weights(&plan);
+        let refused = |weights| compares(&plan, weights, text.clone(), Err(refusal(21, &[place as u64])));
+        calls.extend([weights(&plan), first].map(refused));
+    }
+    for plan in largest() {
+        let text = text(&plan);
+        calls.extend(wrong_weights(&plan).map(|wrong| compares(&plan, wrong, text.clone(), Err(refusal(25, &[])))));
+    }
     calls
 }

@@ -7,7 +7,7 @@ const BITS: usize = 65536;
 
 // A word whose columns up to `last` hold the byte a and the others b.
 fn word(plan: &OwnedPlan, last: usize, a: u8, b: u8) -> Vec<u8> {
-    (0..plan.bits()).map(|bit| if bit / plan.lift <= last { a } else { b }).collect()
+    (0..plan.bits()).map(|bit| if bit / plan.lift() <= last { a } else { b }).collect()
 }
 
 // A word with one byte changed.
@@ -54,7 +54,7 @@ pub fn syndrome() -> Vec<Call> {
 }
 
 pub fn syndrome_refused() -> Vec<Call> {
-    let mut calls = turned_away(|plan| qcldpc::syndrome(&plan.lent(), &vec![0; BITS]));
+    let mut calls = turned_away(|plan| qcldpc::syndrome(plan, &vec![0; BITS]));
     let wrong = [
         (vec![0; BITS - 1], refusal(16, &[])),
         (with(vec![0; BITS], BITS - 1, 3), refusal(18, &[BITS as u64 - 1])),
@@ -98,7 +98,7 @@ pub fn fill() -> Vec<Call> {
 }
 
 pub fn fill_refused() -> Vec<Call> {
-    let mut calls = turned_away(|plan| qcldpc::fill(&plan.lent(), &mut vec![2; BITS]));
+    let mut calls = turned_away(|plan| qcldpc::fill(plan, &mut vec![2; BITS]));
     calls.extend(refused_cases().into_iter().map(filled));
     calls
 }
@@ -108,7 +108,7 @@ pub fn preview() -> Vec<Call> {
 }
 
 pub fn preview_refused() -> Vec<Call> {
-    let mut calls = turned_away(|plan| qcldpc::preview(&plan.lent(), &vec![2; BITS]));
+    let mut calls = turned_away(|plan| qcldpc::preview(plan, &vec![2; BITS]));
     calls.extend(refused_cases().into_iter().map(previewed));
     calls
 }

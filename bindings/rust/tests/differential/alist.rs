@@ -1,96 +1,155 @@
 //! alist text: the writer and the comparer.
-use crate::door::{agree, left, lend_bytes, lend_numbers, no_room, reply, with_room, Short};
-use crate::inputs::{any_plan, every_entry, holed_plan, limit_plans, regular_plan, small_plan, OwnedPlan};
+use crate::door::{agree, left, lend_bytes, lend_places, no_room, reply, with_room, writes, Short};
+use crate::inputs::{any_plan, every_entry, holed_plan, limit_plans, regular_plan, small_plan, Draft};
+use crate::lent::Lent;
 use crate::random::Random;
 use crate::reference;
 use crate::reference::alist::{Alist, Form};
-use crate::seen::{Seen, SeenForms};
+use crate::reference::weights::Weights;
+use crate::seen::{number, Seen, SeenForms};
 use crate::tables::built_plans;
 use crate::texts::{changed, lines, neighbours, text_of, FORMS};
+use crate::weights::{any_weights, wrong_weights, WAYS};
 use qcldpc::raw::{qcldpc_alist_compare, qcldpc_alist_write};
-use qcldpc::{Plan, Refusal};
+use qcldpc::Refusal;
 
-// What the inputs have met.
+// What the inputs have met, and how often weights were wrong.
 #[derive(Default)]
 struct Met {
     seen: Seen,
     forms: SeenForms,
+    wrong: usize,
 }
 
-fn compare_write(plan: &Plan, lent: &[u8], met: &mut Met) {
-    let (answer, after) = reference::alist::write(plan, lent);
-    let input = &(Short(plan), lent.len());
+impl Met {
+    // Weights that are wrong in the next way.
+    fn wrong(&mut self, right: &Weights) -> Weights {
+        self.wrong += 1;
+        wrong_weights(right, self.wrong % WAYS)
+    }
+}
+
+// Gives the number of the answer.
+fn compare_write(plan: &Draft, weights: &Weights, lent: &[u8], met: &mut Met) -> u64 {
+    let (answer, after) = reference::alist::write(&plan.lent(), weights, lent);
+    let input = &(Short(&plan.lent()), weights, lent.len());
     let (rows, cols, lift) = (plan.rows as u64, plan.cols as u64, plan.lift as u64);
-    let (mut p, mut text) = (lend_numbers(plan.entries), lend_bytes(lent));
-    let (entries, len, n) = (p.pointer(), p.len(), text.len());
-    let call = |at, out, places| unsafe { qcldpc_alist_write(entries, len, rows, cols, lift, at, n, out, places) };
-    no_room(|out, places| call(text.pointer(), out, places));
-    left(input, &text, lent);
-    let got = with_room(|out, places| call(text.pointer(), out, places));
-    agree(input, got, reply(&answer.clone().map(|length| vec![length])));
-    left(input, &text, &after);
-    left(input, &p, plan.entries);
+    let mut memory = lend_places(&plan.with(weights));
+    let (p, n, r, rn, c, cn) = memory.raw();
+    let call = |text: &mut Lent<u8>, out, len| unsafe {
+        let (t, tn) = (text.pointer(), text.len());
+        qcldpc_alist_write(p, n, rows, cols, lift, r, rn, c, cn, t, tn, out, len)
+    };
+    writes(input, lend_bytes(lent), [lent, &after], &answer.clone().map(|length| vec![length]), call);
+    left(input, &memory, &plan.with(weights));
     let mut copy = lent.to_vec();
-    agree(input, &qcldpc::alist_write(plan, &mut copy), &answer);
+    agree(input, &qcldpc::alist_write(&plan.lent(), &weights.rows, &weights.cols, &mut copy), &answer);
     agree(input, &copy, &after);
-    met.seen.note_on(plan, &answer);
+    met.seen.note_on(&plan.lent(), &answer);
+    number(&answer)
 }
 
-// The answer that a text should get.
-fn answer(alist: &Result<Alist, Refusal>, text: &[u8], forms: &mut SeenForms) -> Result<(), Refusal> {
-    let departures = reference::alist::departures(alist.as_ref().map_err(Refusal::clone)?, text);
-    forms.note(&departures);
-    reference::alist::compare(&departures)
+// A plan and its alist.
+struct Known<'a> {
+    plan: &'a Draft,
+    alist: Result<Alist, Refusal>,
 }
 
-fn compare_text(plan: &Plan, alist: &Result<Alist, Refusal>, text: &[u8], met: &mut Met) {
-    let wanted = answer(alist, text, &mut met.forms);
-    let input = &(Short(plan), String::from_utf8_lossy(&text[..text.len().min(2000)]));
+impl Known<'_> {
+    fn new(plan: &Draft) -> Known<'_> {
+        Known { plan, alist: reference::alist::alist(&plan.lent()) }
+    }
+
+    // The answer that a text should get.
+    fn answer(&self, weights: &Weights, text: &[u8], forms: &mut SeenForms) -> Result<(), Refusal> {
+        let alist = self.alist.as_ref().map_err(Refusal::clone)?;
+        let departures = reference::alist::departures(alist, text);
+        forms.note(&departures);
+        reference::alist::compare(alist, &departures, weights)
+    }
+}
+
+// Gives the number of the answer.
+fn compare_text(known: &Known, weights: &Weights, text: &[u8], met: &mut Met) -> u64 {
+    let wanted = known.answer(weights, text, &mut met.forms);
+    let plan = known.plan;
+    let input = &(Short(&plan.lent()), weights, String::from_utf8_lossy(&text[..text.len().min(2000)]));
     let (rows, cols, lift) = (plan.rows as u64, plan.cols as u64, plan.lift as u64);
-    let (mut p, mut t) = (lend_numbers(plan.entries), lend_bytes(text));
-    let mut call = |out, places| unsafe {
-        qcldpc_alist_compare(p.pointer(), p.len(), rows, cols, lift, t.pointer(), t.len(), out, places)
+    let (mut memory, mut t) = (lend_places(&plan.with(weights)), lend_bytes(text));
+    let mut call = |out, len| unsafe {
+        let (p, n, r, rn, c, cn) = memory.raw();
+        qcldpc_alist_compare(p, n, rows, cols, lift, r, rn, c, cn, t.pointer(), t.len(), out, len)
     };
     no_room(&mut call);
     agree(input, with_room(&mut call), reply(&wanted.clone().map(|_| vec![])));
-    left(input, &p, plan.entries);
+    left(input, &memory, &plan.with(weights));
     left(input, &t, text);
-    agree(input, &qcldpc::alist_compare(plan, text), &wanted);
-    met.seen.note_on(plan, &wanted);
+    agree(input, &qcldpc::alist_compare(&plan.lent(), &weights.rows, &weights.cols, text), &wanted);
+    met.seen.note_on(&plan.lent(), &wanted);
+    number(&wanted)
 }
 
-fn compare_texts(plan: &OwnedPlan, texts: &[Vec<u8>], met: &mut Met) {
-    let alist = reference::alist::alist(&plan.lent());
-    texts.iter().for_each(|text| compare_text(&plan.lent(), &alist, text, met));
+// Texts with the plan's weights, and every eighth with wrong ones too.
+fn compare_texts(plan: &Draft, texts: &[Vec<u8>], met: &mut Met) {
+    let (known, right) = (Known::new(plan), plan.weights());
+    for (k, text) in texts.iter().enumerate() {
+        compare_text(&known, &right, text, met);
+        if k % 8 == 0 {
+            let wrong = met.wrong(&right);
+            compare_text(&known, &wrong, text, met);
+        }
+    }
 }
 
-// The text itself: a place one byte longer, one byte short, and the comparer in both forms.
-fn compare_exact(plan: &OwnedPlan, met: &mut Met) {
+// The text itself: a place one byte longer, with the plan's weights and with wrong ones, one byte short, and the comparer in
+// both forms.
+fn compare_exact(plan: &Draft, met: &mut Met) {
     let texts = FORMS.map(|form| text_of(plan, form));
-    compare_write(&plan.lent(), &vec![b'x'; texts[0].len() + 1], met);
-    compare_write(&plan.lent(), &vec![b'x'; texts[0].len() - 1], met);
+    let (n, right) = (texts[0].len(), plan.weights());
+    let wrong = met.wrong(&right);
+    for (weights, places) in [(&right, n + 1), (&right, n - 1), (&wrong, n + 1)] {
+        compare_write(plan, weights, &vec![b'x'; places], met);
+    }
     compare_texts(plan, &texts, met);
 }
 
-// Places of the exact length, one byte short, longer, empty.
-fn compare_places(random: &Random, plan: &OwnedPlan, met: &mut Met) {
+// Places of the exact length, one byte short, longer, empty; some with wrong weights.
+fn compare_places(random: &Random, plan: &Draft, met: &mut Met) {
     let n = text_of(plan, Form::Padded).len();
     for places in [n, n - 1, n + 1, n + random.below(100), random.below(n), 0] {
         let lent: Vec<u8> = (0..places).map(|_| random.below(256) as u8).collect();
-        compare_write(&plan.lent(), &lent, met);
+        compare_write(plan, &any_weights(random, plan.weights(), 4), &lent, met);
+    }
+}
+
+// Weights that are wrong in every way are refused last: where the text has room, and where it agrees.
+fn compare_ways(plan: &Draft, met: &mut Met) {
+    let (known, right) = (Known::new(plan), plan.weights());
+    let [padded, unpadded] = FORMS.map(|form| text_of(plan, form));
+    let (n, longer) = (padded.len(), [&padded[..], b"0"].concat());
+    for way in 0..WAYS {
+        let wrong = wrong_weights(&right, way);
+        for (places, wanted) in [(n, 25), (n + 1, 25), (n - 1, 17), (0, 17)] {
+            let number = compare_write(plan, &wrong, &vec![b'x'; places], met);
+            assert_eq!(number, wanted, "{places} places, {wrong:?}");
+        }
+        for (text, wanted) in [(&padded, 25), (&unpadded, 25), (&longer, 21)] {
+            assert_eq!(compare_text(&known, &wrong, text, met), wanted, "{wrong:?}");
+        }
     }
 }
 
 // Every text near that of a tiny plan: regular; with an empty row and column; without a block; with lists of 0 to 2 numbers.
 fn compare_tiny(met: &mut Met) {
     let tiny = [
-        OwnedPlan { entries: vec![0, 1], rows: 1, cols: 2, lift: 2 },
-        OwnedPlan { entries: vec![2, -1, -1, -1], rows: 2, cols: 2, lift: 5 },
-        OwnedPlan { entries: vec![-1, -1], rows: 1, cols: 2, lift: 1 },
-        OwnedPlan { entries: vec![-1, 0, 0, -1, 0, -1, -1, -1, -1], rows: 3, cols: 3, lift: 1 },
+        Draft { entries: vec![0, 1], rows: 1, cols: 2, lift: 2 },
+        Draft { entries: vec![2, -1, -1, -1], rows: 2, cols: 2, lift: 5 },
+        Draft { entries: vec![-1, -1], rows: 1, cols: 2, lift: 1 },
+        Draft { entries: vec![-1, 0, 0, -1, 0, -1, -1, -1, -1], rows: 3, cols: 3, lift: 1 },
     ];
     for plan in tiny {
         FORMS.iter().for_each(|&form| compare_texts(&plan, &neighbours(&plan, form), met));
+        compare_ways(&plan, met);
     }
 }
 
@@ -126,6 +185,7 @@ pub fn compare_all() -> Seen {
     compare_tiny(&mut met);
     compare_large(&random, &mut met);
     every_entry(3).for_each(|plan| compare_exact(&plan, &mut met));
+    (0..100).for_each(|_| compare_ways(&small_plan(&random), &mut met));
     (0..3000).for_each(|_| compare_small(&random, &mut met));
     (0..1000).for_each(|_| compare_lines(&random, &mut met));
     println!("alist: {}", met.forms);

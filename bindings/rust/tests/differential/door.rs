@@ -1,6 +1,7 @@
 //! How a raw function is called: with too small an `out` and with room. Compared are the number it returns, every place of
 //! `out`, and (by `Lent`) all other memory with what stands around it.
-use crate::lent::Lent;
+use crate::lent::{Holds, Lent, LentPlaces};
+use crate::reference::weights::Places;
 use qcldpc::raw::{NO_ROOM, OUT};
 use qcldpc::{Plan, Refusal};
 use std::fmt::{Debug, Formatter};
@@ -17,6 +18,11 @@ pub fn lend_bytes(content: &[u8]) -> Lent<u8> {
 
 pub fn lend_numbers(content: &[i16]) -> Lent<i16> {
     Lent::new(content, AROUND as i16)
+}
+
+pub fn lend_places(Places { plan, weights }: &Places) -> LentPlaces {
+    let lend = |list: &[u16]| Lent::new(list, AROUND as u16);
+    LentPlaces { plan: lend_numbers(plan), rows: lend(&weights.rows), cols: lend(&weights.cols) }
 }
 
 // Lends `out` of some places to a function; what it returned, and `out` as it is then.
@@ -54,24 +60,23 @@ pub fn agree<T: PartialEq + Debug>(input: &dyn Debug, got: T, wanted: T) {
 }
 
 /// Lent memory holds what it should.
-pub fn left<T: Copy + PartialEq + Debug>(input: &dyn Debug, memory: &Lent<T>, wanted: &[T]) {
-    assert!(memory.holds(wanted), "left {:?}, wanted {wanted:?}, for {input:?}", memory.content());
+pub fn left<C: ?Sized + Debug>(input: &dyn Debug, memory: &impl Holds<C>, wanted: &C) {
+    assert!(memory.holds(wanted), "left {memory:?}, wanted {wanted:?}, for {input:?}");
 }
 
-/// A raw function that writes numbers into a lent place: what it returns, `out`, and what stands in the place then.
-pub fn writes(
+/// A raw function that writes into memory, lent and after: what it returns, `out`, and what the memory holds then.
+pub fn writes<M: Holds<C>, C: ?Sized + Debug>(
     input: &dyn Debug,
-    lent: &[i16],
+    mut memory: M,
+    [lent, after]: [&C; 2],
     answer: &Result<Vec<usize>, Refusal>,
-    after: &[i16],
-    function: impl Fn(*mut i16, usize, *mut u64, usize) -> u64,
+    function: impl Fn(&mut M, *mut u64, usize) -> u64,
 ) {
-    let mut place = lend_numbers(lent);
-    no_room(|out, places| function(place.pointer(), place.len(), out, places));
-    left(input, &place, lent);
-    let got = with_room(|out, places| function(place.pointer(), place.len(), out, places));
+    no_room(|out, places| function(&mut memory, out, places));
+    left(input, &memory, lent);
+    let got = with_room(|out, places| function(&mut memory, out, places));
     agree(input, got, reply(answer));
-    left(input, &place, after);
+    left(input, &memory, after);
 }
 
 /// A plan in a message: its shape, and its entries where they are few.

@@ -1,6 +1,6 @@
 //! The decoder and its preview.
 use crate::door::{agree, left, lend_bytes, lend_numbers, no_room, reply, with_room, Short};
-use crate::inputs::{any_plan, column_plan, every_entry, limit_plans, small_plan, OwnedPlan};
+use crate::inputs::{any_plan, column_plan, every_entry, limit_plans, small_plan, Draft};
 use crate::random::Random;
 use crate::reference;
 use crate::reference::fill::{largest_stuck_set, union_of_stuck_sets};
@@ -73,7 +73,7 @@ fn turn_known(random: &Random, word: &mut [u8]) {
 }
 
 // Large plans: a code word where elimination is cheap, else zeros, with no more erasures than elimination is quick for.
-fn compare_large(random: &Random, plan: &OwnedPlan, seen: &mut Seen) {
+fn compare_large(random: &Random, plan: &Draft, seen: &mut Seen) {
     let bits = plan.bits();
     let start = if bits <= 2000 { code_word(random, &code(&plan.lent())) } else { vec![0; bits] };
     for n in [0, 1, 13, bits / 10, bits / 4, bits / 2, bits] {

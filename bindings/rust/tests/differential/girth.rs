@@ -1,6 +1,6 @@
 //! The girth test.
 use crate::door::{agree, left, lend_numbers, no_room, reply, with_room, Short};
-use crate::inputs::{any_plan, column_plan, every_entry, limit_plans, small_plan, OwnedPlan};
+use crate::inputs::{any_plan, column_plan, every_entry, limit_plans, small_plan, Draft};
 use crate::random::Random;
 use crate::reference;
 use crate::reference::graph::{graph, Graph};
@@ -86,7 +86,7 @@ fn compare_starts(random: &Random) {
 }
 
 // Plans of which each girth from 4 to 18 and more is likely; 14 is so of Steiner plans.
-fn likely_plan(random: &Random) -> OwnedPlan {
+fn likely_plan(random: &Random) -> Draft {
     if random.once_in(8) {
         return steiner::random_plan(random, 7, random.between(20, 1000));
     }
@@ -96,13 +96,13 @@ fn likely_plan(random: &Random) -> OwnedPlan {
     column_plan(random, rows, cols, lift, weight)
 }
 
-fn empty_plan(rows: usize, cols: usize, lift: usize) -> OwnedPlan {
-    OwnedPlan { entries: vec![-1; rows * cols], rows, cols, lift }
+fn empty_plan(rows: usize, cols: usize, lift: usize) -> Draft {
+    Draft { entries: vec![-1; rows * cols], rows, cols, lift }
 }
 
 // A cycle of 2n edges in the n rows and columns from (row, col) on. A shift is the sum of a number of its row and one of its
 // column, so that the cycle closes on its first round.
-fn put_ring(plan: &mut OwnedPlan, row: usize, col: usize, n: usize) {
+fn put_ring(plan: &mut Draft, row: usize, col: usize, n: usize) {
     for k in 0..n {
         let i = row + k;
         for j in [col + k, col + (k + 1) % n] {
@@ -112,7 +112,7 @@ fn put_ring(plan: &mut OwnedPlan, row: usize, col: usize, n: usize) {
 }
 
 // Cycles side by side, one of 2n edges for each n, with no edge between them.
-fn rings(halves: &[usize], lift: usize) -> OwnedPlan {
+fn rings(halves: &[usize], lift: usize) -> Draft {
     let size = halves.iter().sum();
     let mut plan = empty_plan(size, size, lift);
     let mut first = 0;

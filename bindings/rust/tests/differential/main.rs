@@ -1,12 +1,14 @@
 //! The library beside an independent implementation, on a fixed sequence of many inputs.
 mod alist;
 mod cages;
+mod changes;
 mod count;
 mod door;
 mod fill;
 mod girth;
 mod inputs;
 mod lent;
+mod owned;
 mod plans;
 mod promise;
 mod random;
@@ -16,6 +18,8 @@ mod steiner;
 mod table_vi;
 mod tables;
 mod texts;
+mod walk;
+mod weights;
 mod words;
 
 use seen::{Seen, LAST};
@@ -25,6 +29,7 @@ static PLANS: LazyLock<Seen> = LazyLock::new(plans::compare_all);
 static GIRTH: LazyLock<Seen> = LazyLock::new(girth::compare_all);
 static TABLES: LazyLock<Seen> = LazyLock::new(tables::compare_all);
 static STEINER: LazyLock<Seen> = LazyLock::new(steiner::compare_all);
+static CHANGES: LazyLock<Seen> = LazyLock::new(changes::compare_all);
 static WORDS: LazyLock<Seen> = LazyLock::new(words::compare_all);
 static FILL: LazyLock<Seen> = LazyLock::new(fill::compare_all);
 static COUNT: LazyLock<Seen> = LazyLock::new(count::compare_all);
@@ -44,12 +49,19 @@ fn girth_test() {
 #[test]
 fn table_plans() {
     println!("tables: {}", *TABLES);
+    assert_eq!(TABLES.met(), [3, 7, 8, 9, 10, 11, 12, 13, 15, 25]);
 }
 
 #[test]
 fn steiner_plans() {
     println!("steiner: {}", *STEINER);
-    assert_eq!(STEINER.met(), [3, 4, 6, 22, 23]);
+    assert_eq!(STEINER.met(), [3, 4, 6, 22, 23, 25]);
+}
+
+#[test]
+fn changed_blocks() {
+    println!("changed blocks: {}", *CHANGES);
+    assert_eq!(CHANGES.met(), [1, 2, 3, 4, 5, 6, 24, 25]);
 }
 
 #[test]
@@ -72,6 +84,7 @@ fn erasure_count() {
 #[test]
 fn alist_text() {
     println!("alist: {}", *ALIST);
+    assert_eq!(ALIST.met(), [1, 2, 3, 4, 5, 6, 17, 21, 25]);
 }
 
 #[test]
@@ -83,7 +96,7 @@ fn promise_3() {
 // The subjects above are run once each, whichever test asks first.
 #[test]
 fn every_refusal_was_met() {
-    let subjects = [&PLANS, &GIRTH, &TABLES, &STEINER, &WORDS, &FILL, &ALIST];
+    let subjects = [&PLANS, &GIRTH, &TABLES, &STEINER, &CHANGES, &WORDS, &FILL, &ALIST];
     for number in 1..=LAST {
         let times: usize = subjects.iter().map(|seen| seen.refusals(number)).sum();
         assert!(times > 0, "no input met refusal {number}");
@@ -93,7 +106,7 @@ fn every_refusal_was_met() {
 // Every subject that is given voltages meets many at or above the lift.
 #[test]
 fn printed_voltages_were_met() {
-    let plans = [&PLANS, &GIRTH, &WORDS, &FILL, &ALIST].map(|seen| (seen, 10000));
+    let plans = [&PLANS, &GIRTH, &CHANGES, &WORDS, &FILL, &ALIST].map(|seen| (seen, 10000));
     for (seen, least) in plans.into_iter().chain([(&STEINER, 1000), (&PROMISE, 500)]) {
         assert!(seen.printed > least, "only {} results with a voltage at or above the lift", seen.printed);
     }

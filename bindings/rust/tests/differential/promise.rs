@@ -1,7 +1,7 @@
 //! Promise 3 on real plans: a code word that lost no more bits than the plan's girth allows comes back whole. The bound is 3,
 //! 5, 9, 13, 21, 29, 45 at target 6, 8, 10, 12, 14, 16, 18 with three filled blocks or more in each column; every table plan
 //! has that of 12, and every Steiner plan that of 6.
-use crate::inputs::{column_plan, OwnedPlan};
+use crate::inputs::{column_plan, Draft};
 use crate::random::Random;
 use crate::reference;
 use crate::reference::gf2::Solved;
@@ -32,7 +32,7 @@ fn near_bits(random: &Random, graph: &Graph, n: usize) -> Vec<usize> {
     lost
 }
 
-fn comes_back(plan: &OwnedPlan, word: &[u8], lost: &[usize], seen: &mut Seen) {
+fn comes_back(plan: &Draft, word: &[u8], lost: &[usize], seen: &mut Seen) {
     let mut lent = word.to_vec();
     lost.iter().for_each(|&b| lent[b] = 2);
     let whole = Fill { filled: lost.len(), left: 0 };
@@ -42,18 +42,18 @@ fn comes_back(plan: &OwnedPlan, word: &[u8], lost: &[usize], seen: &mut Seen) {
 }
 
 // All code words of the plan at a divisor of its lift: the largest by which elimination is quick.
-fn part_code(plan: &OwnedPlan) -> (usize, Solved) {
+fn part_code(plan: &Draft) -> (usize, Solved) {
     let quick = |divisor: &usize| plan.lift % divisor == 0 && plan.cols * divisor <= 5000;
     let divisor = (1..=plan.lift).rev().find(quick).expect("1 is a divisor");
     (divisor, code(&Plan { lift: divisor, ..plan.lent() }))
 }
 
 // A code word at a divisor of the lift, repeated in each column: check (i, y) then has the bits of check (i, y mod divisor).
-fn repeated(plan: &OwnedPlan, divisor: usize, word: &[u8]) -> Vec<u8> {
+fn repeated(plan: &Draft, divisor: usize, word: &[u8]) -> Vec<u8> {
     (0..plan.bits()).map(|bit| word[bit / plan.lift * divisor + bit % plan.lift % divisor]).collect()
 }
 
-fn lose_and_fill(random: &Random, plan: &OwnedPlan, n: usize, times: usize, seen: &mut Seen) {
+fn lose_and_fill(random: &Random, plan: &Draft, n: usize, times: usize, seen: &mut Seen) {
     let graph = graph(&plan.lent());
     let (divisor, code) = part_code(plan);
     for _ in 0..times {
@@ -64,14 +64,14 @@ fn lose_and_fill(random: &Random, plan: &OwnedPlan, n: usize, times: usize, seen
 }
 
 // As many lost bits as the plan's girth allows, which is tested too.
-fn lose_by_girth(random: &Random, plan: &OwnedPlan, times: usize, seen: &mut Seen) {
+fn lose_by_girth(random: &Random, plan: &Draft, times: usize, seen: &mut Seen) {
     let girth = girth::compare(&plan.lent(), &mut Seen::default()).expect("a good plan");
     let (_, n) = BOUNDS.into_iter().rfind(|(target, _)| *target <= girth).expect("the plan passes at 6");
     lose_and_fill(random, plan, n, times, seen);
 }
 
 // Every choice of n bits.
-fn every_choice(plan: &OwnedPlan, word: &[u8], n: usize, chosen: &mut Vec<usize>, seen: &mut Seen) {
+fn every_choice(plan: &Draft, word: &[u8], n: usize, chosen: &mut Vec<usize>, seen: &mut Seen) {
     if chosen.len() == n {
         return comes_back(plan, word, chosen, seen);
     }
@@ -84,13 +84,13 @@ fn every_choice(plan: &OwnedPlan, word: &[u8], n: usize, chosen: &mut Vec<usize>
 
 // A plan that passes at a target: column after column, each drawn until the girth is kept, and again from the first where that
 // does not come about.
-fn passing_plan(target: usize, rows: usize, cols: usize, lift: usize, draw: impl Fn(usize) -> Vec<i16>) -> OwnedPlan {
+fn passing_plan(target: usize, rows: usize, cols: usize, lift: usize, draw: impl Fn(usize) -> Vec<i16>) -> Draft {
     let mut columns: Vec<Vec<i16>> = vec![];
     let mut tries = 0;
     while columns.len() < cols {
         columns.push(draw(columns.len()));
         let entries = (0..rows).flat_map(|i| columns.iter().map(move |column| column[i])).collect();
-        let plan = OwnedPlan { entries, rows, cols: columns.len(), lift };
+        let plan = Draft { entries, rows, cols: columns.len(), lift };
         if reference::girth::girth(&graph(&plan.lent()), lift) < target {
             columns.pop();
             tries += 1;
@@ -106,12 +106,12 @@ fn passing_plan(target: usize, rows: usize, cols: usize, lift: usize, draw: impl
 }
 
 // One with three filled blocks in each column.
-fn passing_column_plan(random: &Random, target: usize, rows: usize, cols: usize, lift: usize) -> OwnedPlan {
+fn passing_column_plan(random: &Random, target: usize, rows: usize, cols: usize, lift: usize) -> Draft {
     passing_plan(target, rows, cols, lift, |_| column_plan(random, rows, 1, lift, 3).entries)
 }
 
 // One of an order's triples, built from its voltages.
-fn passing_steiner_plan(random: &Random, target: usize, order: usize, lift: usize) -> OwnedPlan {
+fn passing_steiner_plan(random: &Random, target: usize, order: usize, lift: usize) -> Draft {
     let triples = system(order).expect("a supplied order");
     let cols = triples.len();
     let draw = |j: usize| {

@@ -4,7 +4,12 @@ use qcldpc::Plan;
 use std::fmt;
 
 /// The highest number of a refusal.
-pub const LAST: usize = 23;
+pub const LAST: usize = 25;
+
+/// The number that a call returns: 0 where it is no refusal.
+pub fn number<T>(answer: &Result<T, qcldpc::Refusal>) -> u64 {
+    answer.as_ref().map_or_else(|refusal| refusal.number, |_| 0)
+}
 
 #[derive(Clone, Default)]
 pub struct Seen {

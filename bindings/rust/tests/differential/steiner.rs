@@ -1,20 +1,24 @@
 //! The plans of the supplied Steiner triple systems.
-use crate::door::{agree, left, lend_numbers, writes};
-use crate::inputs::OwnedPlan;
+use crate::door::{agree, left, lend_numbers, lend_places, writes};
+use crate::inputs::Draft;
+use crate::lent::LentPlaces;
+use crate::owned;
 use crate::random::Random;
 use crate::reference;
 use crate::reference::steiner::{system, ORDERS};
-use crate::seen::{Seen, LAST};
+use crate::reference::weights::Places;
+use crate::seen::{number, Seen, LAST};
+use crate::weights::{damage_places, near, room, some_places};
 use qcldpc::raw::qcldpc_steiner;
-use qcldpc::{Built, Refusal};
+use qcldpc::{Built, OwnedPlan, Refusal};
 
-// What a plan is built from.
+// What a plan is built from, and how many places there are for it and for the lists beside it.
 #[derive(Clone, Debug)]
 struct Parts {
     order: usize,
     lift: usize,
     voltages: Vec<i16>,
-    places: usize,
+    places: [usize; 3],
 }
 
 // What the inputs have met; and how often each refusal was given alone, and how often as the lowest of several.
@@ -28,7 +32,7 @@ struct Met {
 impl Met {
     fn note(&mut self, parts: &Parts, answer: &Result<Built, Refusal>) {
         self.seen.note_voltages(&parts.voltages, parts.lift, answer);
-        match &reference::steiner::refusals(parts.order, parts.lift, &parts.voltages, parts.places)[..] {
+        match &reference::steiner::refusals(parts.order, parts.lift, &parts.voltages, &some_places(parts.places))[..] {
             [] => (),
             [only] => self.alone[only.number as usize] += 1,
             [lowest, ..] => self.lowest[lowest.number as usize] += 1,
@@ -46,7 +50,7 @@ fn most(order: usize) -> usize {
 }
 
 fn parts(order: usize, lift: usize, voltages: Vec<i16>) -> Parts {
-    Parts { order, lift, voltages, places: order * cols(order) }
+    Parts { order, lift, voltages, places: room(order, cols(order)) }
 }
 
 // Three voltages for each triple: of all sizes, below the lift, or at the ends of their range.
@@ -62,7 +66,7 @@ fn random_parts(random: &Random, order: usize, lift: usize) -> Parts {
 }
 
 // Each column has three blocks, each row (v - 1)/2, and two rows have one column in common.
-fn assert_steiner(plan: &OwnedPlan) {
+fn assert_steiner(plan: &Draft) {
     let filled = |i: usize, j: usize| plan.entries[i * plan.cols + j] >= 0;
     let count = |n: usize, holds: &dyn Fn(usize) -> bool| (0..n).filter(|&k| holds(k)).count();
     assert!((0..plan.cols).all(|j| count(plan.rows, &|i| filled(i, j)) == 3));
@@ -72,46 +76,52 @@ fn assert_steiner(plan: &OwnedPlan) {
     }
 }
 
-// The constructor answers as the builder does in a place of the length that the order needs.
+// The constructor answers as the builder does in places of the lengths that the order needs.
 fn compare_owned(parts: &Parts) {
     let Parts { order, lift, ref voltages, .. } = *parts;
-    let (answer, entries) = reference::steiner::build(order, lift, voltages, &vec![0; order * cols(order)]);
-    let wanted = answer.map(|Built { rows, cols }| OwnedPlan { entries, rows, cols, lift });
-    agree(parts, OwnedPlan::steiner(order, lift, voltages), wanted);
+    let supplied = if ORDERS.contains(&order) { order } else { 0 };
+    let (answer, after) = reference::steiner::build(order, lift, voltages, &some_places(room(supplied, cols(order))));
+    let wanted = answer.map(|Built { rows, cols }| Draft { entries: after.plan, rows, cols, lift });
+    owned::same(parts, OwnedPlan::steiner(order, lift, voltages), wanted);
 }
 
-fn compare(parts: &Parts, met: &mut Met) -> Option<OwnedPlan> {
+fn compare(parts: &Parts, met: &mut Met) -> Result<Draft, Refusal> {
     let Parts { order, lift, ref voltages, places } = *parts;
-    let lent = vec![7; places];
+    let lent = some_places(places);
     let (answer, after) = reference::steiner::build(order, lift, voltages, &lent);
-    let mut memory = lend_numbers(voltages);
-    let (v, n) = (memory.pointer(), memory.len());
-    let call = |to, len, out, places| unsafe { qcldpc_steiner(order as u64, lift as u64, v, n, to, len, out, places) };
-    writes(parts, &lent, &answer.clone().map(|built| vec![built.rows, built.cols]), &after, call);
-    left(parts, &memory, voltages);
+    let mut v = lend_numbers(voltages);
+    let (at, vn) = (v.pointer(), v.len());
+    let call = |memory: &mut LentPlaces, out, len| unsafe {
+        let (p, n, r, rn, c, cn) = memory.raw();
+        qcldpc_steiner(order as u64, lift as u64, at, vn, p, n, r, rn, c, cn, out, len)
+    };
+    let values = answer.clone().map(|built| vec![built.rows, built.cols]);
+    writes(parts, lend_places(&lent), [&lent, &after], &values, call);
+    left(parts, &v, &voltages[..]);
     let mut copy = lent;
-    agree(parts, &qcldpc::steiner(order, lift, voltages, &mut copy), &answer);
+    let Places { plan, weights } = &mut copy;
+    agree(parts, &qcldpc::steiner(order, lift, voltages, plan, &mut weights.rows, &mut weights.cols), &answer);
     agree(parts, &copy, &after);
     compare_owned(parts);
     met.note(parts, &answer);
-    let Built { rows, cols } = answer.ok()?;
-    let plan = OwnedPlan { entries: after, rows, cols, lift };
+    let Built { rows, cols } = answer?;
+    let plan = Draft { entries: after.plan, rows, cols, lift };
     assert_steiner(&plan);
-    Some(plan)
+    Ok(plan)
 }
 
 /// The plan of an order, a lift and voltages that are not refused.
-pub fn plan(order: usize, lift: usize, voltages: Vec<i16>) -> OwnedPlan {
+pub fn plan(order: usize, lift: usize, voltages: Vec<i16>) -> Draft {
     compare(&parts(order, lift, voltages), &mut Met::default()).expect("nothing is to be refused")
 }
 
 /// The plan of an order with any voltages.
-pub fn random_plan(random: &Random, order: usize, lift: usize) -> OwnedPlan {
+pub fn random_plan(random: &Random, order: usize, lift: usize) -> Draft {
     plan(order, lift, voltages(random, order, lift))
 }
 
 /// Plans of every order at small lifts.
-pub fn built_plans(random: &Random) -> Vec<OwnedPlan> {
+pub fn built_plans(random: &Random) -> Vec<Draft> {
     let lifts = [1, 2, 3, 7, 16, 40];
     ORDERS.iter().flat_map(|&order| lifts.map(|lift| random_plan(random, order, lift))).collect()
 }
@@ -121,7 +131,7 @@ fn compare_orders(random: &Random, met: &mut Met) {
     for order in (0..26).chain([7 + (1 << 16), 19 + (1 << 32), 1 << 63, (1 << 63) + 9, usize::MAX - 1, usize::MAX]) {
         for like in [0].into_iter().chain(ORDERS) {
             for lift in [0, 1, 40, 1149, 4096, 4097] {
-                compare(&Parts { order, ..random_parts(random, like, lift) }, met);
+                _ = compare(&Parts { order, ..random_parts(random, like, lift) }, met);
             }
         }
     }
@@ -142,13 +152,29 @@ fn compare_lifts(random: &Random, met: &mut Met) {
 fn compare_lengths(random: &Random, met: &mut Met) {
     for order in ORDERS {
         let right = random_parts(random, order, 40);
-        let near = |n: usize| [0, 1, n - 3, n - 1, n, n + 1, n + 3, 2 * n];
-        for len in near(right.voltages.len()) {
-            for places in near(right.places) {
-                let mut parts = Parts { places, ..right.clone() };
+        let about = |n: usize| [0, 1, n - 3, n - 1, n, n + 1, n + 3, 2 * n];
+        for len in about(right.voltages.len()) {
+            for places in about(right.places[0]) {
+                let mut parts = right.clone();
+                parts.places[0] = places;
                 parts.voltages.resize(len, 3);
-                compare(&parts, met);
+                _ = compare(&parts, met);
             }
+        }
+    }
+}
+
+// The places for the lists beside the plan are looked at last: after the order, and after the other lengths.
+fn compare_lists(random: &Random, met: &mut Met) {
+    for order in ORDERS {
+        let right = random_parts(random, order, 40);
+        let [plan, rows, cols] = right.places;
+        for places in near(rows).into_iter().flat_map(|r| near(cols).map(|c| [plan, r, c])) {
+            let wanted = if places == right.places { 0 } else { 25 };
+            let parts = Parts { places, ..right.clone() };
+            assert_eq!(number(&compare(&parts, met)), wanted, "{places:?}");
+            assert_eq!(number(&compare(&Parts { order: order + 1, ..parts.clone() }, met)), 22, "{places:?}");
+            assert_eq!(number(&compare(&Parts { voltages: vec![], ..parts }, met)), 23, "{places:?}");
         }
     }
 }
@@ -162,9 +188,9 @@ fn compare_negative(random: &Random, met: &mut Met) {
         for place in 0..len {
             let mut parts = right.clone();
             parts.voltages[place] = negative();
-            compare(&parts, met);
+            _ = compare(&parts, met);
             parts.voltages[random.between(place, len - 1)] = negative();
-            compare(&parts, met);
+            _ = compare(&parts, met);
         }
     }
 }
@@ -184,17 +210,17 @@ fn any_parts(random: &Random) -> Parts {
     random_parts(random, order, lift)
 }
 
-// Makes one of refusals 3, 4, 6, 22, 23 likely.
+// Makes one of refusals 3, 4, 6, 22, 23, 25 likely.
 fn damage(random: &Random, parts: &mut Parts) {
-    let (len, places) = (parts.voltages.len(), parts.places);
-    match random.below(7) {
+    let len = parts.voltages.len();
+    match random.below(9) {
         0 => parts.lift = random.choice(&[0, 4097, usize::MAX, parts.lift.wrapping_add(1 << 32)]),
         1 => parts.lift = random.choice(&[2521, 1873, 1150, 4096]),
         2 => parts.order = random.choice(&[0, 1, 6, 8, 10, 21, 25, usize::MAX, parts.order.wrapping_add(1 << 32), 1 << 63]),
         3 => parts.order = random.choice(&ORDERS),
         4 if len > 0 => parts.voltages[random.below(len)] = random.choice(&[-1, -1, -2, -40, i16::MIN]),
         5 => parts.voltages.resize(random.choice(&[0, len.saturating_sub(1), len + 1, len + 3]), 1),
-        _ => parts.places = random.choice(&[0, places.saturating_sub(1), places + 1, places / 2]),
+        _ => damage_places(random, &mut parts.places),
     }
 }
 
@@ -203,16 +229,17 @@ pub fn compare_all() -> Seen {
     compare_orders(&random, &mut met);
     compare_lifts(&random, &mut met);
     compare_lengths(&random, &mut met);
+    compare_lists(&random, &mut met);
     compare_negative(&random, &mut met);
     compare_voltages(&mut met);
     for k in 0..12000 {
         let mut parts = any_parts(&random);
         (0..k % 4).for_each(|_| damage(&random, &mut parts));
-        compare(&parts, &mut met);
+        _ = compare(&parts, &mut met);
     }
     let Met { seen, alone, lowest } = met;
-    assert!([3, 4, 6, 22, 23].iter().all(|&n| alone[n] > 200), "each refusal is met alone: {alone:?}");
-    // 22 and 23 are never due at once.
-    assert!([3, 4, 6].iter().all(|&n| lowest[n] > 200), "each of these is met as the lowest: {lowest:?}");
+    assert!([3, 4, 6, 22, 23, 25].iter().all(|&n| alone[n] > 200), "each refusal is met alone: {alone:?}");
+    // 22 is never due with 23 or 25.
+    assert!([3, 4, 6, 23].iter().all(|&n| lowest[n] > 200), "each of these is met as the lowest: {lowest:?}");
     seen
 }

@@ -1,5 +1,5 @@
 //! Table VI of source document 000: plans of girth 14, 16 and 18 from Steiner triple systems, in its own order of triples.
-use crate::inputs::OwnedPlan;
+use crate::inputs::Draft;
 
 // Example 3's triples of STS(9), whose points count from 1.
 const NINE: [[usize; 3]; 12] = [
@@ -48,29 +48,29 @@ const THIRTEEN: [[usize; 3]; 26] = [
 ];
 
 // W' has the first and the second voltage of each column but the first; all other voltages are 0.
-fn plan(rows: usize, triples: &[[usize; 3]], lift: usize, w: [&[i16]; 2]) -> OwnedPlan {
+fn plan(rows: usize, triples: &[[usize; 3]], lift: usize, w: [&[i16]; 2]) -> Draft {
     let cols = triples.len();
     let mut entries = vec![-1; rows * cols];
     for (j, triple) in triples.iter().enumerate() {
         let voltage = |k: usize| if j > 0 && k < 2 { w[k][j - 1] } else { 0 };
         (0..3).for_each(|k| entries[triple[k] * cols + j] = voltage(k));
     }
-    OwnedPlan { entries, rows, cols, lift }
+    Draft { entries, rows, cols, lift }
 }
 
-fn nine(lift: usize, w: [&[i16]; 2]) -> OwnedPlan {
+fn nine(lift: usize, w: [&[i16]; 2]) -> Draft {
     plan(9, &NINE.map(|triple| triple.map(|point| point - 1)), lift, w)
 }
 
-fn shortened(lift: usize, w: [&[i16]; 2]) -> OwnedPlan {
+fn shortened(lift: usize, w: [&[i16]; 2]) -> Draft {
     plan(12, &THIRTEEN[..20], lift, w)
 }
 
-fn thirteen(lift: usize, w: [&[i16]; 2]) -> OwnedPlan {
+fn thirteen(lift: usize, w: [&[i16]; 2]) -> Draft {
     plan(13, &THIRTEEN, lift, w)
 }
 
-fn of_girth_14() -> [OwnedPlan; 3] {
+fn of_girth_14() -> [Draft; 3] {
     let a: [&[i16]; 2] = [&[0, 123, 36, 3, 2, 79, 4, 7, 52, 4, 1], &[0, 96, 23, 11, 1, 37, 12, 2, 61, 1, 4]];
     let b: [&[i16]; 2] = [
         &[423, 0, 437, 5, 237, 235, 170, 333, 260, 109, 241, 2, 114, 5, 2, 428, 92, 228, 299],
@@ -83,7 +83,7 @@ fn of_girth_14() -> [OwnedPlan; 3] {
     [nine(151, a), shortened(486, b), thirteen(1153, c)]
 }
 
-fn of_girth_16() -> [OwnedPlan; 2] {
+fn of_girth_16() -> [Draft; 2] {
     let a: [&[i16]; 2] = [&[0, 468, 99, 3, 2, 305, 43, 9, 251, 3, 2], &[0, 351, 41, 6, 8, 215, 18, 1, 79, 1, 8]];
     let b: [&[i16]; 2] = [
         &[937, 0, 1551, 1264, 1670, 2119, 1973, 1960, 1848, 1223, 1806, 15, 1761, 1, 2, 2175, 1169, 1768, 548],
@@ -92,12 +92,12 @@ fn of_girth_16() -> [OwnedPlan; 2] {
     [nine(665, a), shortened(2562, b)]
 }
 
-fn of_girth_18() -> OwnedPlan {
+fn of_girth_18() -> Draft {
     nine(2723, [&[0, 853, 217, 6, 2, 1108, 75, 20, 586, 1, 5], &[0, 1797, 97, 3, 4, 485, 33, 37, 246, 1, 5]])
 }
 
 /// The plans within the limits, each with its girth.
-pub fn plans() -> Vec<(OwnedPlan, usize)> {
+pub fn plans() -> Vec<(Draft, usize)> {
     let (fourteen, sixteen) = (of_girth_14().map(|plan| (plan, 14)), of_girth_16().map(|plan| (plan, 16)));
     fourteen.into_iter().chain(sixteen).chain([(of_girth_18(), 18)]).collect()
 }

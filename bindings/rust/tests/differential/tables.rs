@@ -1,18 +1,22 @@
 //! The supplied tables and the plans built from tables and masks.
-use crate::door::{agree, left, lend_bytes, lend_numbers, writes};
-use crate::inputs::OwnedPlan;
+use crate::door::{agree, left, lend_bytes, lend_numbers, lend_places, writes};
+use crate::inputs::Draft;
+use crate::lent::{Lent, LentPlaces};
+use crate::owned;
 use crate::random::Random;
 use crate::reference;
-use crate::seen::Seen;
+use crate::reference::weights::Places;
+use crate::seen::{number, Seen};
+use crate::weights::{damage_places, near, room, some_places};
 use qcldpc::raw::{qcldpc_array_table, qcldpc_build, qcldpc_cyclic_table};
-use qcldpc::Refusal;
+use qcldpc::{Built, OwnedPlan, Refusal};
 
 type Supply = unsafe extern "C" fn(u64, *mut i16, usize, *mut u64, usize) -> u64;
 
 fn compare_supply(function: Supply, order: usize, lent: &[i16], wanted: (Result<(), Refusal>, Vec<i16>), seen: &mut Seen) {
     let (answer, after) = wanted;
-    let call = |to, len, out, places| unsafe { function(order as u64, to, len, out, places) };
-    writes(&(order, lent.len()), lent, &answer.clone().map(|_| vec![]), &after, call);
+    let call = |table: &mut Lent<i16>, out, len| unsafe { function(order as u64, table.pointer(), table.len(), out, len) };
+    writes(&(order, lent.len()), lend_numbers(lent), [lent, &after], &answer.clone().map(|_| vec![]), call);
     seen.note(&answer);
 }
 
@@ -26,32 +30,45 @@ fn compare_tables(order: usize, lent: &[i16], seen: &mut Seen) {
     compare_supply(qcldpc_cyclic_table, order, lent, cyclic, seen);
 }
 
-/// What a plan is built from.
+/// What a plan is built from, and how many places there are for it and for the lists beside it.
 #[derive(Clone, Debug)]
 pub struct Parts {
     order: usize,
     lift: usize,
     table: Vec<i16>,
     mask: Vec<u8>,
-    places: usize,
+    places: [usize; 3],
 }
 
-fn compare_build(parts: &Parts, seen: &mut Seen) -> Option<OwnedPlan> {
-    let Parts { order, lift, .. } = *parts;
-    let lent = vec![7; parts.places];
-    let (answer, after) = reference::table::build(order, lift, &parts.table, &parts.mask, &lent);
-    let (mut table, mut mask) = (lend_numbers(&parts.table), lend_bytes(&parts.mask));
-    let (n, m) = (table.len(), mask.len());
-    let (t, k) = (table.pointer(), mask.pointer());
-    let call = |to, len, out, places| unsafe { qcldpc_build(order as u64, lift as u64, t, n, k, m, to, len, out, places) };
-    writes(parts, &lent, &answer.clone().map(|built| vec![built.rows, built.cols]), &after, call);
-    left(parts, &table, &parts.table);
-    left(parts, &mask, &parts.mask);
+// The constructor answers as the builder does in places of the lengths that the table and the mask need.
+fn compare_owned(parts: &Parts) {
+    let Parts { order, lift, ref table, ref mask, .. } = *parts;
+    let draft = |(Built { rows, cols }, entries)| Draft { entries, rows, cols, lift };
+    let wanted = reference::table::built(order, lift, table, mask).map(draft);
+    owned::same(parts, OwnedPlan::build(order, lift, table, mask), wanted);
+}
+
+fn compare_build(parts: &Parts, seen: &mut Seen) -> Result<Draft, Refusal> {
+    let Parts { order, lift, ref table, ref mask, places } = *parts;
+    let lent = some_places(places);
+    let (answer, after) = reference::table::build(order, lift, table, mask, &lent);
+    let (mut t, mut m) = (lend_numbers(table), lend_bytes(mask));
+    let (table_at, tn, mask_at, mn) = (t.pointer(), t.len(), m.pointer(), m.len());
+    let call = |memory: &mut LentPlaces, out, len| unsafe {
+        let (p, n, r, rn, c, cn) = memory.raw();
+        qcldpc_build(order as u64, lift as u64, table_at, tn, mask_at, mn, p, n, r, rn, c, cn, out, len)
+    };
+    let values = answer.clone().map(|built| vec![built.rows, built.cols]);
+    writes(parts, lend_places(&lent), [&lent, &after], &values, call);
+    left(parts, &t, &table[..]);
+    left(parts, &m, &mask[..]);
     let mut copy = lent;
-    agree(parts, &qcldpc::build(order, lift, &parts.table, &parts.mask, &mut copy), &answer);
+    let Places { plan, weights } = &mut copy;
+    agree(parts, &qcldpc::build(order, lift, table, mask, plan, &mut weights.rows, &mut weights.cols), &answer);
     agree(parts, &copy, &after);
+    compare_owned(parts);
     seen.note(&answer);
-    answer.ok().map(|built| OwnedPlan { entries: after, rows: built.rows, cols: built.cols, lift })
+    answer.map(|Built { rows, cols }| Draft { entries: after.plan, rows, cols, lift })
 }
 
 fn reference_table(order: usize, array: bool) -> Vec<i16> {
@@ -61,7 +78,7 @@ fn reference_table(order: usize, array: bool) -> Vec<i16> {
 }
 
 fn parts(order: usize, lift: usize, table: Vec<i16>, weight: usize, mask: Vec<u8>) -> Parts {
-    Parts { order, lift, table, mask, places: 3 * weight * order * order * weight * weight }
+    Parts { order, lift, table, mask, places: room(3 * weight * order, order * weight * weight) }
 }
 
 fn full_parts(order: usize, lift: usize, array: bool) -> Parts {
@@ -69,7 +86,7 @@ fn full_parts(order: usize, lift: usize, array: bool) -> Parts {
 }
 
 /// The cyclic plan with the full mask.
-pub fn cyclic_plan(order: usize, lift: usize) -> OwnedPlan {
+pub fn cyclic_plan(order: usize, lift: usize) -> Draft {
     compare_build(&full_parts(order, lift, false), &mut Seen::default()).expect("the table is sound")
 }
 
@@ -105,9 +122,9 @@ fn any_parts(random: &Random) -> Parts {
     parts(order, lift, table, weight, mask)
 }
 
-// Makes one of refusals 3, 7 to 13, 15 likely.
+// Makes one of refusals 3, 7 to 13, 15, 25 likely.
 fn damage(random: &Random, parts: &mut Parts) {
-    match random.below(11) {
+    match random.below(13) {
         0 => parts.lift = random.choice(&[0, 4097, usize::MAX, parts.lift.wrapping_add(1 << 32)]),
         1 => parts.order = random.choice(&[0, 3, 8, usize::MAX, parts.order.wrapping_add(1 << 32), 1 << 63]),
         2 => parts.table.truncate(random.choice(&[0, 15, 24])),
@@ -126,12 +143,26 @@ fn damage(random: &Random, parts: &mut Parts) {
             parts.mask[place] = random.choice(&[0, 0, 1, 1, 2, 255]);
         }
         9 => parts.mask = mask(random, parts.order.clamp(4, 7), 3),
-        _ => parts.places = random.choice(&[0, parts.places.saturating_sub(1), parts.places + 1, parts.places / 2]),
+        _ => damage_places(random, &mut parts.places),
+    }
+}
+
+// The places for the lists beside the plan are looked at last.
+fn compare_lengths(random: &Random, seen: &mut Seen) {
+    let masked = parts(5, 5, reference_table(5, false), 4, mask(random, 5, 4));
+    for right in [full_parts(4, 7, false), masked] {
+        let [plan, rows, cols] = right.places;
+        for places in near(rows).into_iter().flat_map(|r| near(cols).map(|c| [plan, r, c])) {
+            let wanted = if places == right.places { 0 } else { 25 };
+            let build = |plan| Parts { places: [plan, places[1], places[2]], ..right.clone() };
+            assert_eq!(number(&compare_build(&build(plan), seen)), wanted, "{places:?}");
+            assert_eq!(number(&compare_build(&build(plan - 1), seen)), 15, "{places:?}");
+        }
     }
 }
 
 /// Table plans of every order, full and masked, at the lifts that the requirement and its source name.
-pub fn built_plans(random: &Random) -> Vec<OwnedPlan> {
+pub fn built_plans(random: &Random) -> Vec<Draft> {
     let mut all = vec![];
     for (order, lift, array) in [(4, 7, false), (5, 5, true), (5, 5, false), (5, 12, false), (5, 7, true), (6, 19, false)] {
         all.push(full_parts(order, lift, array));
@@ -158,15 +189,16 @@ pub fn compare_all() -> Seen {
         for lift in 1..65536 / (order * 16) + 2 {
             for array in [false, true] {
                 if lift < 60 || lift % 41 == 0 || lift * order * order * order > 65000 {
-                    compare_build(&full_parts(order, lift, array), &mut seen);
+                    _ = compare_build(&full_parts(order, lift, array), &mut seen);
                 }
             }
         }
     }
+    compare_lengths(&random, &mut seen);
     for k in 0..6000 {
         let mut parts = any_parts(&random);
         (0..k % 4).for_each(|_| damage(&random, &mut parts));
-        compare_build(&parts, &mut seen);
+        _ = compare_build(&parts, &mut seen);
     }
     seen
 }

@@ -1,5 +1,5 @@
 //! Texts near a plan's alist, in its two forms and between them.
-use crate::inputs::OwnedPlan;
+use crate::inputs::Draft;
 use crate::random::Random;
 use crate::reference;
 use crate::reference::alist::Form;
@@ -7,7 +7,7 @@ use crate::reference::alist::Form;
 pub const FORMS: [Form; 2] = [Form::Padded, Form::Unpadded];
 
 /// The text that a plan should have in a form; of a refused plan any.
-pub fn text_of(plan: &OwnedPlan, form: Form) -> Vec<u8> {
+pub fn text_of(plan: &Draft, form: Form) -> Vec<u8> {
     match reference::plan::check(&plan.lent()) {
         Ok(()) => reference::alist::text_in(&plan.lent(), form).into_bytes(),
         Err(_) => b"4 2\n1 2\n".to_vec(),
@@ -17,14 +17,14 @@ pub fn text_of(plan: &OwnedPlan, form: Form) -> Vec<u8> {
 // Lines, without their line feeds.
 type Lines = Vec<Vec<u8>>;
 
-fn lines_of(plan: &OwnedPlan, form: Form) -> Lines {
+fn lines_of(plan: &Draft, form: Form) -> Lines {
     let mut lines: Lines = text_of(plan, form).split(|&byte| byte == b'\n').map(<[u8]>::to_vec).collect();
     lines.pop();
     lines
 }
 
 // The lines of both forms, of a mixture of them, and of each form but for one short list (or line, where none is short).
-fn line_choices(random: &Random, plan: &OwnedPlan) -> [Lines; 5] {
+fn line_choices(random: &Random, plan: &Draft) -> [Lines; 5] {
     let [padded, unpadded] = FORMS.map(|form| lines_of(plan, form));
     let lines = 0..padded.len();
     let short: Vec<usize> = lines.clone().filter(|&k| padded[k] != unpadded[k]).collect();
@@ -79,7 +79,7 @@ fn extra_line_feeds(random: &Random, lines: &[Vec<u8>]) -> [Vec<u8>; 4] {
 }
 
 /// Both forms and mixtures of them, with right line feeds, with missing and with extra ones.
-pub fn lines(random: &Random, plan: &OwnedPlan) -> Vec<Vec<u8>> {
+pub fn lines(random: &Random, plan: &Draft) -> Vec<Vec<u8>> {
     let makers = [right_ends, missing_line_feeds, extra_line_feeds];
     let texts = |lines: Lines| makers.map(|make| make(random, &lines)).concat();
     line_choices(random, plan).into_iter().flat_map(texts).collect()
@@ -144,7 +144,7 @@ fn grow_token(random: &Random, text: &mut Vec<u8>) {
 }
 
 /// The text of a form itself, cut, with other blanks, and changed.
-pub fn changed(random: &Random, plan: &OwnedPlan, form: Form) -> Vec<Vec<u8>> {
+pub fn changed(random: &Random, plan: &Draft, form: Form) -> Vec<Vec<u8>> {
     let text = text_of(plan, form);
     let mut other = other_blanks(random, &text, form);
     let mut texts = vec![text.clone(), text[..text.len() - 1].to_vec(), other.clone()];
@@ -161,7 +161,7 @@ pub fn changed(random: &Random, plan: &OwnedPlan, form: Form) -> Vec<Vec<u8>> {
 }
 
 /// Every text that is one byte away from that of a tiny plan in a form, or cut from it.
-pub fn neighbours(plan: &OwnedPlan, form: Form) -> Vec<Vec<u8>> {
+pub fn neighbours(plan: &Draft, form: Form) -> Vec<Vec<u8>> {
     let text = text_of(plan, form);
     let with = |from: usize, bytes: &[u8], to: usize| [&text[..from], bytes, &text[to..]].concat();
     let mut texts = vec![];

@@ -1,6 +1,6 @@
 //! The syndrome check, and words of all kinds.
 use crate::door::{agree, left, lend_bytes, lend_numbers, no_room, reply, with_room, Short};
-use crate::inputs::{any_plan, every_entry, limit_plans, OwnedPlan};
+use crate::inputs::{any_plan, every_entry, limit_plans, Draft};
 use crate::random::Random;
 use crate::reference;
 use crate::reference::gf2::{Solved, System};
@@ -48,7 +48,7 @@ pub fn random_word(random: &Random, bits: usize) -> Vec<u8> {
 
 /// A word for a plan, of any length where that is refused: a code word where elimination is cheap, or zeros, or any bits; now and
 /// then with one bit turned.
-pub fn some_word(random: &Random, plan: &OwnedPlan) -> Vec<u8> {
+pub fn some_word(random: &Random, plan: &Draft) -> Vec<u8> {
     let good = reference::plan::check(&plan.lent()).is_ok();
     let bits = if good { plan.bits() } else { plan.cols.min(9) * plan.lift.min(9) };
     let mut word = match random.below(4) {

@@ -1,4 +1,4 @@
--- `alist::compare` meets its contract: past refusals 1 to 6 the comparison's own is left. Assumes nothing.
+-- `alist::compare` meets its contract: past refusals 1 to 6 the comparison's own are left. Assumes nothing.
 use mathlib.Core.Path.{sym, ap, _∙_}
 use borrow.Author.Needs.{needs}
 use Rattle.alist.specs.Calls.{comparison}
@@ -19,10 +19,10 @@ enum-known-r : tie.Need-enum-known-r
 enum-known-r c = search needs
 
 returns : tie.Need-returns
-returns c = c .compare-valid .ensures ∙ sym (ap comparison (compare-valid _ _ _ _ _ (c .before .before .before .validate .ensures) (c .before .enum-told .given .1) _))
+returns c = c .compare-valid .ensures ∙ sym (ap comparison (compare-valid _ _ _ _ _ (c .before .before .before .validate .ensures) _ _ (c .before .enum-told .given .1) _))
 
 returns-2 : tie.Need-returns-2
-returns-2 c = sym (ap comparison (compare-refused _ _ _ _ _ (c .before .before .before .validate .ensures) _ (c .before .r .given .1) _))
+returns-2 c = sym (ap comparison (compare-refused _ _ _ _ _ (c .before .before .before .validate .ensures) _ _ _ (c .before .r .given .1) _))
 
 pub compare-spec : {M : Type 1} → statement M
 compare-spec =

@@ -1,7 +1,7 @@
--- `alist::write` meets its contract: past refusals 1 to 6 the writer's own is left. Assumes nothing.
-use mathlib.Core.Path.{refl}
+-- `alist::write` meets its contract: past refusals 1 to 6 the writer's own are left. Assumes nothing.
 use borrow.Author.Needs.{needs}
 use Rattle.alist.proofs.Answers.{valid-plan, write-valid, write-refused}
+use Rattle.alist.proofs.Lists.{refused-by, put-by}
 use Rattle.alist.proofs.write.Statement.{statement}
 use Rattle.alist.proofs.write.Tie as tie
 
@@ -24,11 +24,11 @@ returns : tie.Need-returns
 returns c =
     let w = c .before .before in
     let v = w .before .before .before .before in
-    rw (write-valid _ _ _ _ _ (v .validate .ensures) (w .before .before .enum-told .given .1) _) (w .write-valid .ensures .answer, w .write-valid .ensures .place)
+    put-by _ _ _ _ (write-valid _ _ _ _ _ (v .validate .ensures) _ _ (w .before .before .enum-told .given .1) _) _ _ (w .write-valid .ensures)
 
 returns-2 : tie.Need-returns-2
 returns-2 c =
-    rw (write-refused _ _ _ _ _ (c .before .before .before .validate .ensures) _ (c .before .r .given .1) _) (refl, refl)
+    refused-by _ _ _ _ (write-refused _ _ _ _ _ (c .before .before .before .validate .ensures) _ _ _ (c .before .r .given .1) _)
 
 pub write-spec : {M : Type 1} → statement M
 write-spec =

@@ -24,9 +24,9 @@ left t s xs = verdict (mismatchAfter (t .args .form) (t .args .text .now) s xs)
 
 -- behind the end of the first line, at a step s, these come
 told : (c : tie.After-end-line) (s : Step) → c .end-line .result ≡ s
-    → let t = c .before .before in left t s (rest t) ≡ left t (t .args .step) (ending (t .args .form) ++ rest t)
+    → let t = c .before .before .before .before in left t s (rest t) ≡ left t (t .args .step) (ending (t .args .form) ++ rest t)
 told c s e =
-    let t = c .before .before in
+    let t = c .before .before .before .before in
     ap (λ (r : Step). left t r (rest t)) (sym e ∙ c .end-line .ensures)
     ∙ ap verdict (after-items (t .args .form) (t .args .text .now) (t .args .step) (ending (t .args .form)) (rest t))
 

@@ -17,10 +17,14 @@ node-count-requires-2 c κs = search needs
 read-alist-requires : tie.Need-read-alist-requires
 read-alist-requires c κs = search needs
 
+-- the first record of a place
+abbrev start : tie.After-node-count2 → tie.Start
+start c = c .before .before .before .before .before
+
 returns : tie.Need-returns
 unfolding departsIn
 returns c =
-    let a = c .before .before .before .before .args in
+    let a = start (c .before) .args in
     c .read-alist .ensures
     ∙ ap (λ (xs : List Item). verdict (mismatch (a .form) (a .text .now) 0 xs)) (first-line (a .form) (a .plan .now) (a .s) _ _ (c .before .before .node-count .ensures) (c .before .node-count2 .ensures))
 

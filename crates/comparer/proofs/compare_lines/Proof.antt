@@ -9,7 +9,7 @@ use borrow.Author.Needs.{needs}
 use Rattle.exponent.specs.Tanner.{graphOf}
 use Rattle.tokens.specs.Tokens.{mismatch}
 use Rattle.tokens.proofs.Reading.{line-le}
-use Rattle.lines.specs.declared.sides.Side.the-variants.{Bits, Checks}
+use Rattle.weights.specs.declared.Side.the-variants.{Bits, Checks}
 use Rattle.lines.specs.Sides.{Small}
 use Rattle.lines.specs.Lines.{lineIn}
 use Rattle.lines.specs.Text.{itemsOf}
@@ -22,42 +22,46 @@ use Rattle.comparer.proofs.compare_lines.Statement.{statement}
 use Rattle.comparer.proofs.compare_lines.Tie as tie
 
 abbrev Inv-loop : tie.InvT-loop
-Inv-loop text form plan down along l count at₀ i₀ at i =
+Inv-loop text form plan byrow bycol down along l count at₀ i₀ at i =
     (at ≤ length text) × (mismatch form text at₀ (itemsOf form (laterLines form (graphOf plan (l .shape)))) ≡ mismatch form text at (itemsOf form (linesFrom form plan (l .shape) i)))
 
 abbrev μ-loop : tie.MeasureT-loop
-μ-loop text form plan down along l count at₀ i₀ at i = count - i
+μ-loop text form plan byrow bycol down along l count at₀ i₀ at i = count - i
+
+-- the first record of a place
+abbrev start : tie.After-shared-slice-known5 Inv-loop μ-loop → tie.Start Inv-loop μ-loop
+start c = c .before .before .before .before .before
 
 -- the line that a turn reads
-next : (c : tie.After-line-at Inv-loop μ-loop) → let a = c .before .before .before .before .before .before .before .args in
+next : (c : tie.After-line-at Inv-loop μ-loop) → let a = start (c .before .before .before .before) .args in
     linesFrom (a .form) (a .plan .now) (a .l .shape) (c .before .before .loop .i)
     ≡ lineIn (a .form) (graphOf (a .plan .now) (a .l .shape)) (c .line-at .result) ∷ linesFrom (a .form) (a .plan .now) (a .l .shape) (c .before .before .loop .i + 1)
 next c =
-    let a = c .before .before .before .before .before .before .before .args in
+    let a = start (c .before .before .before .before) .args in
     lines-next (a .form) (a .plan .now) (a .l .shape) _ _ (rw (c .before .before .before .line-count .ensures) at (c .before .loop-test .taken)) (c .line-at .ensures .0)
 
 -- past the last line none is left
-past : (c : tie.After-loop Inv-loop μ-loop) → let a = c .before .before .before .before .before .before .args in
+past : (c : tie.After-loop Inv-loop μ-loop) → let a = start (c .before .before .before) .args in
     linesFrom (a .form) (a .plan .now) (a .l .shape) (c .before .loop .i) ≡ []
 past c =
-    let a = c .before .before .before .before .before .before .args in
+    let a = start (c .before .before .before) .args in
     lines-end (a .form) (a .plan .now) (a .l .shape) _ (rw (c .before .before .line-count .ensures) at (c .loop-test .left))
 
 line-count-requires : tie.Need-line-count-requires Inv-loop μ-loop
-line-count-requires c κs = let t = c .before .before .before in small _ (t .args .l .shape) (t .pre .0 .ready .well)
+line-count-requires c κs = let t = start c in small _ (t .args .l .shape) (t .pre .0 .ready .well)
 
 loop-holds : tie.Need-loop-holds Inv-loop μ-loop
 loop-holds c =
-    let t = c .before .before .before .before in
-    (t .pre .1, ap (λ (ls : List (List ℕ)). mismatch (t .args .form) (t .args .text .now) (t .args .c .at) (itemsOf (t .args .form) ls)) (sym (lines-later (t .args .form) (t .args .plan .now) (t .args .l .shape))))
+    let t = start (c .before) in
+    (t .pre .2, ap (λ (ls : List (List ℕ)). mismatch (t .args .form) (t .args .text .now) (t .args .c .at) (itemsOf (t .args .form) ls)) (sym (lines-later (t .args .form) (t .args .plan .now) (t .args .l .shape))))
 
 line-at-requires : tie.Need-line-at-requires Inv-loop μ-loop
 line-at-requires c κs =
-    let t = c .before .before .before .before .before .before in
+    let t = start (c .before .before .before) in
     (small _ (t .args .l .shape) (t .pre .0 .ready .well), rw (c .before .before .line-count .ensures) at (c .loop-test .taken))
 
 expect-line-requires : tie.Need-expect-line-requires Inv-loop μ-loop
-expect-line-requires c κs = let t = c .before .before .before .before .before .before .before in (t .pre .0, c .line-at .ensures .1, c .before .before .loop .inv .0)
+expect-line-requires c κs = let t = start (c .before .before .before .before) in (t .pre .0, t .pre .1, c .line-at .ensures .1, c .before .before .loop .inv .0)
 
 enum-known-next : tie.Need-enum-known-next Inv-loop μ-loop
 enum-known-next c = search needs
@@ -70,10 +74,14 @@ returns c =
     let f = c .before .before .before in
     sym (ap verdict (f .before .before .before .loop .inv .1 ∙ line-wrong _ _ _ _ _ (f .expect-line .ensures) _ _ (next (f .before)) _ (c .before .p .given .1)))
 
+-- where a turn begins
+abbrev turn : tie.After-known-told Inv-loop μ-loop → tie.In-loop Inv-loop μ-loop
+turn c = c .before .before .before .before .before
+
 add-i : tie.Need-add-i Inv-loop μ-loop
 add-i c =
-    let n = c .before .before .before .before .before in
-    let t = n .before .before .before .before .before .before in
+    let n = turn c in
+    let t = start (n .before .before .before) in
     let h : Small (t .args .l .shape) = small _ (t .args .l .shape) (t .pre .0 .ready .well) in
     omega (arith, n .loop-test .taken, n .before .before .line-count .ensures, nodes-few (t .args .l .shape) Bits h, nodes-few (t .args .l .shape) Checks h)
 

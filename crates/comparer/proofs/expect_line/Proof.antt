@@ -12,9 +12,13 @@ expect-numbers-requires c κs = search needs
 end-line-requires : tie.Need-end-line-requires
 end-line-requires c κs = search needs
 
+-- the first record of a place
+abbrev start : tie.After-shared-slice-known5 → tie.Start
+start c = c .before .before .before .before .before
+
 returns : tie.Need-returns
 returns c =
-    let a = c .before .before .before .before .before .args in
+    let a = start (c .before .before) .args in
     line-read _ _ _ (lineIn (a .form) (graphOf (a .plan .now) (a .l .shape)) (a .line)) _ _ (c .before .expect-numbers .ensures) (c .end-line .ensures)
 
 pub expect-line-spec : {M : Type 1} → statement M

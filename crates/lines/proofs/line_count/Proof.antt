@@ -2,7 +2,7 @@
 use Prim.Native.Nat.{_≤_}
 use native.Mathlib.Omega.{arith}
 use borrow.Author.Needs.{needs}
-use Rattle.lines.specs.declared.sides.Side.the-variants.{Bits, Checks}
+use Rattle.weights.specs.declared.Side.the-variants.{Bits, Checks}
 use Rattle.lines.proofs.Lanes.{nodes-few}
 use Rattle.lines.proofs.line_count.Statement.{statement}
 use Rattle.lines.proofs.line_count.Tie as tie

@@ -4,13 +4,12 @@ use mathlib.Core.Path.{sym, ap, _∙_}
 use borrow.Author.Needs.{needs}
 use Rattle.lines.specs.declared.Line.{Line}
 use Rattle.lines.specs.Lines.{widthOf}
-use Rattle.lines.proofs.Lanes.{small}
 use Rattle.lines.proofs.width.Statement.{statement}
 use Rattle.lines.proofs.width.Tie as tie
 
 -- how many numbers a line has, where the function is called
 abbrev wide : tie.Start → Line → ℕ
-wide t = widthOf (t .args .form) (t .args .plan .now) (t .args .l)
+wide t = widthOf (t .args .form) (t .args .l) (t .args .byrow .now) (t .args .bycol .now)
 
 enum-told : tie.Need-enum-told
 enum-told c = search needs
@@ -24,7 +23,7 @@ enum-known-line c = search needs
 node-count-requires : tie.Need-node-count-requires
 node-count-requires c κs =
     let t = c .before .before .before .before .before in
-    small _ (t .args .l .shape) (t .pre .0 .ready .well)
+    t .pre .0 .small
 
 enum-known-line-2 : tie.Need-enum-known-line-2
 enum-known-line-2 c = search needs

@@ -1,56 +1,57 @@
--- `planning::plan_text` meets its contract: the builder's answer tells what is printed. Assumes nothing.
-use mathlib.Core.Path.{sym}
-use mathlib.Core.List.{List}
+-- `planning::plan_text` meets its contract: the request is read, and lists are lent for the weights of its plan. Assumes nothing.
+use Prim.Native.Nat.{ℕ, _*_, _<_}
+use mathlib.Core.Path.{sym, ap, _∙_}
 use native.Mathlib.Omega.{arith}
-use lib.IntN.{ℤ}
 use lib.Seq.{length-take-le}
 use borrow.Author.Needs.{needs}
-use Rattle.planning.proofs.Answers.{size-small, size-fits, good, shown, turned-away, told}
+use Rattle.square.proofs.Places.{square}
+use Rattle.grid.proofs.Columns.{cols-small}
+use Rattle.planning.proofs.Plans.{side-small}
+use Rattle.planning.proofs.Answers.{told}
 use Rattle.planning.proofs.plan_text.Statement.{statement}
 use Rattle.planning.proofs.plan_text.Tie as tie
 
--- the plan as it was lent
-abbrev lentPlan : tie.After-build → List ℤ
-lentPlan c = c .before .before .before .before .before .args .plan .now
+-- the side is below 8
+small : (c : tie.After-side) → c .side .result < 8
+small c = omega (arith, side-small (c .before .read .result .order), c .side .ensures)
 
 read-requires : tie.Need-read-requires
 read-requires c κs = search needs
 
-build-requires : tie.Need-build-requires
-build-requires c κs = search needs
+side-requires : tie.Need-side-requires
+side-requires c κs = search needs
 
-enum-known-rows : tie.Need-enum-known-rows
-enum-known-rows c = search needs
+mul-rows : tie.Need-mul-rows
+mul-rows c = let h = small c in omega (arith, square _ _ h h)
 
-mul-end : tie.Need-mul-end
-mul-end c =
-    let r = c .before in
-    let b = r .before .before .before in
-    omega (arith, size-small _ (lentPlan b) _ _ (b .build .ensures .0) (b .build .ensures .1) _ _ (r .rows .given .1))
+mul-rows-2 : tie.Need-mul-rows-2
+mul-rows-2 c = let h = small c in omega (arith, square _ _ h h)
 
-slice-reshare-prefix-judged : tie.Need-slice-reshare-prefix-judged
-slice-reshare-prefix-judged c =
-    let r = c .before in
-    let b = r .before .before .before in
-    size-fits _ (lentPlan b) _ _ (b .build .ensures .0) (b .build .ensures .1) _ _ (r .rows .given .1)
+mul-cols : tie.Need-mul-cols
+mul-cols c = let h = small c in omega (arith, square _ _ h h)
 
-slice-aggregate-judged : tie.Need-slice-aggregate-judged
-slice-aggregate-judged c =
-    let r = c .before .before in
-    let b = r .before .before .before in
-    sym (length-take-le _ _ (size-fits _ (lentPlan b) _ _ (b .build .ensures .0) (b .build .ensures .1) _ _ (r .rows .given .1)))
+mul-cols-2 : tie.Need-mul-cols-2
+mul-cols-2 c = let h = small c in omega (arith, cols-small _ _ h h)
 
-judged-requires : tie.Need-judged-requires
-judged-requires c κs =
-    let r = c .before .before .before in
-    let b = r .before .before .before in
-    good _ (lentPlan b) _ _ (b .build .ensures .0) (b .build .ensures .1) _ _ (r .rows .given .1)
+array-borrow-prefix-byrow : tie.Need-array-borrow-prefix-byrow
+array-borrow-prefix-byrow c = let h = small (c .before) in omega (arith, square _ _ h h)
 
-enum-known-r : tie.Need-enum-known-r
-enum-known-r c = search needs
+slice-aggregate-request-text : tie.Need-slice-aggregate-request-text
+slice-aggregate-request-text c = let h = small (c .before .before) in sym (length-take-le _ _ (omega (arith, square _ _ h h)))
 
-refused-requires : tie.Need-refused-requires
-refused-requires c κs = search needs
+array-borrow-prefix-bycol : tie.Need-array-borrow-prefix-bycol
+array-borrow-prefix-bycol c = let h = small (c .before .before) in omega (arith, cols-small _ _ h h)
+
+slice-aggregate-request-text-2 : tie.Need-slice-aggregate-request-text-2
+slice-aggregate-request-text-2 c = let h = small (c .before .before .before) in sym (length-take-le _ _ (omega (arith, cols-small _ _ h h)))
+
+request-text-requires : tie.Need-request-text-requires
+request-text-requires c κs =
+    let s = c .before .before .before .before in
+    let h = small s in (
+      length-take-le _ _ (omega (arith, square _ _ h h)) ∙ ap (λ (k : ℕ). 3 * (k * k)) (s .side .ensures),
+      length-take-le _ _ (omega (arith, cols-small _ _ h h)) ∙ ap (λ (k : ℕ). k * (k * k)) (s .side .ensures),
+    )
 
 same-length : tie.Need-same-length
 same-length c = search needs
@@ -60,46 +61,26 @@ same-length-2 c = search needs
 
 returns : tie.Need-returns
 returns c =
-    let j = c .before .before in
-    let r = j .before .before .before .before in
-    let b = r .before .before .before in
-    let q = b .before .before in
-    let a = q .before .before .before .args in
-    told _ (a .plan .now) _ _ (b .build .ensures .0) (b .build .ensures .1) (a .input .now) (a .text .now) (q .read .ensures)
-    (shown _ (a .plan .now) _ _ (b .build .ensures .0) (b .build .ensures .1) _ _ (r .rows .given .1) (a .text .now) (j .judged .ensures))
-
-same-length-3 : tie.Need-same-length-3
-same-length-3 c = search needs
-
-same-length-4 : tie.Need-same-length-4
-same-length-4 c = search needs
-
-returns-2 : tie.Need-returns-2
-returns-2 c =
-    let j = c .before .before in
-    let r = j .before .before .before in
-    let b = r .before .before .before in
-    let q = b .before .before in
-    let a = q .before .before .before .args in
-    told _ (a .plan .now) _ _ (b .build .ensures .0) (b .build .ensures .1) (a .input .now) (a .text .now) (q .read .ensures)
-    (turned-away _ (a .plan .now) _ _ (b .build .ensures .0) (b .build .ensures .1) _ (r .r .given .1) (a .text .now) (j .refused .ensures))
+    let w = c .before .before .before .before .before in
+    let r = w .before .before .before .before .before .before in
+    let a = r .before .before .before .args in
+    told _ (a .plan .now) _ (w .request-text .ensures .1) (a .input .now) (a .text .now) (r .read .ensures) (w .request-text .ensures .0)
 
 pub plan-text-spec : {M : Type 1} → statement M
 plan-text-spec =
     tie.close
     (tie.spec
     read-requires
-    build-requires
-    enum-known-rows
-    mul-end
-    slice-reshare-prefix-judged
-    slice-aggregate-judged
-    judged-requires
-    enum-known-r
-    refused-requires
+    side-requires
+    mul-rows
+    mul-rows-2
+    mul-cols
+    mul-cols-2
+    array-borrow-prefix-byrow
+    slice-aggregate-request-text
+    array-borrow-prefix-bycol
+    slice-aggregate-request-text-2
+    request-text-requires
     same-length
     same-length-2
-    returns
-    same-length-3
-    same-length-4
-    returns-2)
+    returns)

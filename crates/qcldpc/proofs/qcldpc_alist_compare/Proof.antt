@@ -29,4 +29,6 @@ returns-2 c =
     replied-by comparedReply (a .compare .result) (a .compare .ensures) (omega arith) (r .compared .result) (r .compared .ensures) (g .give .ensures)
 
 pub qcldpc-alist-compare-spec : {M : Type 1} → statement M
-qcldpc-alist-compare-spec = tie.close (tie.spec returns compare-requires compared-requires give-requires same-length returns-2)
+qcldpc-alist-compare-spec =
+    tie.close
+    (tie.spec returns compare-requires compared-requires give-requires same-length returns-2)

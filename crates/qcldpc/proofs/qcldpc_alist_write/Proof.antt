@@ -29,7 +29,16 @@ returns-2 c =
     let g = c .before .before in
     let r = g .before .before in
     let a = r .before .before .before in
-    (replied-by writtenReply (a .write .result) (a .write .ensures .0) (omega arith) (r .written .result) (r .written .ensures) (g .give .ensures), changed (omega arith) (a .write .ensures .1))
+    (replied-by writtenReply (a .write .result) (a .write .ensures .answer) (omega arith) (r .written .result) (r .written .ensures) (g .give .ensures), changed (omega arith) (a .write .ensures .place))
 
 pub qcldpc-alist-write-spec : {M : Type 1} → statement M
-qcldpc-alist-write-spec = tie.close (tie.spec returns write-requires written-requires give-requires same-length same-length-2 returns-2)
+qcldpc-alist-write-spec =
+    tie.close
+    (tie.spec
+    returns
+    write-requires
+    written-requires
+    give-requires
+    same-length
+    same-length-2
+    returns-2)

@@ -1,38 +1,64 @@
--- `steiner::build` meets its contract: where the rules give nothing, the plan is written. Assumes nothing.
+-- `steiner::build` meets its contract: where the rules give nothing, the plan is written, and then its weights. Assumes nothing.
+use Prim.Native.Nat.{ℕ}
 use mathlib.Core.Path.{_≡_, sym, ap, _∙_}
+use mathlib.Core.List.{List}
 use mathlib.Core.Option.{Option, none, some}
-use lib.ListN.{length}
+use lib.IntN.{ℤ}
 use borrow.Author.Needs.{needs}
 use Rattle.refusal.specs.declared.Refusal.{Refusal}
-use Rattle.refusal.specs.Lowest.{lowest}
+use Rattle.refusal.specs.Lent.{lent}
 use Rattle.exponent.proofs.Rules.{valid-none, refused-some}
+use Rattle.weights.specs.declared.Side.{Side}
+use Rattle.weights.specs.declared.Side.the-variants.{Bits, Checks}
+use Rattle.weights.specs.Weights.{shapeOf, weightsOf, roomOf}
 use Rattle.table.specs.declared.Built.the-variants.{Built}
-use Rattle.table.specs.Build.{lent}
-use Rattle.steiner.specs.System.{cols}
-use Rattle.steiner.specs.Build.{buildRules, steinerPlan, built}
+use Rattle.steiner.specs.Build.{buildRefusal, steinerPlan, steinerWeights, built}
 use Rattle.steiner.proofs.Accepted.{Taken, taken}
+use Rattle.steiner.proofs.Plans.{built-plan}
 use Rattle.steiner.proofs.build.Statement.{statement}
 use Rattle.steiner.proofs.build.Tie as tie
 
-abbrev rules : tie.Start → Option Refusal
-rules s = lowest (buildRules (s .args .order) (s .args .lift) (s .args .voltages .now) (length (s .args .plan .now)))
+module _ (s : tie.Start) where
+  abbrev refusal : Option Refusal
+  refusal = buildRefusal (s .args .order) (s .args .lift) (s .args .voltages .now) (s .args .plan .now) (s .args .row-weights .now) (s .args .col-weights .now)
 
--- an answer and what the list then holds, from what the rules give
-told : (s : tie.Start) (o : Option Refusal) → rules s ≡ o
-    → (built o (s .args .order) ≡ built (rules s) (s .args .order))
-    × (lent o (steinerPlan (s .args .order) (s .args .lift) (s .args .voltages .now)) (s .args .plan .now)
-    ≡ lent (rules s) (steinerPlan (s .args .order) (s .args .lift) (s .args .voltages .now)) (s .args .plan .now))
-told s o e = (
-  sym (ap (λ (x : Option Refusal). built x (s .args .order)) e),
-  sym (ap (λ (x : Option Refusal). lent x (steinerPlan (s .args .order) (s .args .lift) (s .args .voltages .now)) (s .args .plan .now)) e),
-)
+  -- an answer and what a lent list then holds, from what the rules give
+  module _ (o : Option Refusal) (e : refusal ≡ o) where
+    answers : built o (s .args .order) ≡ built refusal (s .args .order)
+    answers = sym (ap (λ (x : Option Refusal). built x (s .args .order)) e)
+
+    leaves : {A : Type 0} (new old : List A) → lent o new old ≡ lent refusal new old
+    leaves new old = sym (ap (λ (x : Option Refusal). lent x new old) e)
+
+-- the start, from behind the judge; and what lies before, from behind each filling
+abbrev start : tie.After-judge → tie.Start
+start c = c .before .before .before
+
+abbrev judged : tie.After-fill → tie.After-enum-told
+judged c = c .before .before .before
+
+abbrev written : tie.After-fill2 → tie.After-fill
+written c = c .before .before .before .before .before
 
 -- the judge's word that nothing falls
-passed : (c : tie.After-enum-told) → rules (c .before .before .before) ≡ none
+passed : (c : tie.After-enum-told) → refusal (start (c .before .before)) ≡ none
 passed c = valid-none _ (sym (c .before .before .judge .ensures) ∙ c .enum-told .given .1)
 
-all-taken : (c : tie.After-enum-told) → let a = c .before .before .before .args in Taken (a .order) (a .lift) (a .voltages .now) (length (a .plan .now))
+all-taken : (c : tie.After-enum-told) → let a = start (c .before .before) .args in
+    Taken (a .order) (a .lift) (a .voltages .now) (roomOf (a .plan .now) (a .row-weights .now) (a .col-weights .now))
 all-taken c = taken _ _ _ _ (passed c)
+
+-- the weights of the plan that was written are what a list is to hold then
+weights : (c : tie.After-fill) (side : Side) (old : List ℕ) → let s = start (judged c .before .before) in let a = s .args in
+    weightsOf (c .fill .last .1 .1 .1 .0) (shapeOf (a .order) (c .before .before .cols .result) (a .lift)) side ≡ lent (refusal s) (steinerWeights (a .order) (a .lift) (a .voltages .now) side) old
+unfolding steinerWeights
+weights c side old =
+    let s = start (judged c .before .before) in
+    let a = s .args in
+    let plan = steinerPlan (a .order) (a .lift) (a .voltages .now) in
+    ap (λ (l : List ℤ). weightsOf l (shapeOf (a .order) (c .before .before .cols .result) (a .lift)) side) (c .fill .ensures)
+    ∙ ap (λ (n : ℕ). weightsOf plan (shapeOf (a .order) n (a .lift)) side) (c .before .before .cols .ensures)
+    ∙ leaves s none (passed (judged c)) (steinerWeights (a .order) (a .lift) (a .voltages .now) side) old
 
 judge-requires : tie.Need-judge-requires
 judge-requires c κs = search needs
@@ -40,11 +66,17 @@ judge-requires c κs = search needs
 enum-told : tie.Need-enum-told
 enum-told c = search needs
 
-fill-requires : tie.Need-fill-requires
-fill-requires c κs = let t = all-taken (c .before) in (t .ready, t .place)
-
 cols-requires : tie.Need-cols-requires
-cols-requires c κs = all-taken (c .before .before .before) .ready .known
+cols-requires c κs = all-taken c .ready .known
+
+fill-requires : tie.Need-fill-requires
+fill-requires c κs = let t = all-taken (c .before .before) in (t .ready, t .place)
+
+fill-requires-2 : tie.Need-fill-requires-2
+fill-requires-2 c κs =
+    let f = c .before .before .before .before in
+    let t = all-taken (judged f) in
+    rw (f .fill .ensures, f .before .before .cols .ensures) (built-plan _ _ _ _ (passed (judged f)) .well-formed, t .row-list, t .col-list)
 
 enum-known-r : tie.Need-enum-known-r
 enum-known-r c = search needs
@@ -52,17 +84,31 @@ enum-known-r c = search needs
 same-length : tie.Need-same-length
 same-length c = search needs
 
+same-length-2 : tie.Need-same-length-2
+same-length-2 c = search needs
+
+same-length-3 : tie.Need-same-length-3
+same-length-3 c = search needs
+
 returns : tie.Need-returns
 returns c =
-    let e = c .before .before .before .before in
-    let s = e .before .before .before in
-    let t = told s none (passed e) in
-    (ap (Built (s .args .order)) (c .cols .ensures) ∙ t .0, c .before .before .fill .ensures ∙ t .1)
+    let g = c .before .before .before .before in
+    let f = written g in
+    let s = start (judged f .before .before) in
+    let e = passed (judged f) in (
+      ap (Built (s .args .order)) (f .before .before .cols .ensures) ∙ answers s none e,
+      (
+        f .fill .ensures ∙ leaves s none e _ _,
+        (g .fill2 .ensures .0 ∙ weights f Checks (s .args .row-weights .now), g .fill2 .ensures .1 ∙ weights f Bits (s .args .col-weights .now)),
+      ),
+    )
 
 returns-2 : tie.Need-returns-2
 returns-2 c =
     let r = c .before in
-    told (r .before .before .before) (some _) (refused-some _ _ (sym (r .before .before .judge .ensures) ∙ r .r .given .1))
+    let j = r .before .before in
+    let e : refusal (start j) ≡ some (r .r .given .0 .0) = refused-some _ _ (sym (j .judge .ensures) ∙ r .r .given .1) in
+    (answers (start j) _ e, (leaves (start j) _ e _ _, (leaves (start j) _ e _ _, leaves (start j) _ e _ _)))
 
 pub build-spec : {M : Type 1} → statement M
 build-spec =
@@ -70,9 +116,12 @@ build-spec =
     (tie.spec
     judge-requires
     enum-told
-    fill-requires
     cols-requires
+    fill-requires
+    fill-requires-2
     enum-known-r
     same-length
+    same-length-2
+    same-length-3
     returns
     returns-2)

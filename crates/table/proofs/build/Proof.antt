@@ -1,39 +1,89 @@
--- `table::build` meets its contract: where the rules give nothing, the plan is written. Assumes nothing.
+-- `table::build` meets its contract: where the rules give nothing, the plan is written, and then its weights. Assumes nothing.
 use Prim.Native.Nat.{ℕ, _<_}
 use mathlib.Core.Path.{_≡_, sym, ap, _∙_}
+use mathlib.Core.List.{List}
 use mathlib.Core.Option.{Option, none, some}
 use native.Mathlib.Omega.{arith}
-use lib.ListN.{length}
+use lib.IntN.{ℤ}
 use borrow.Author.Needs.{needs}
 use Rattle.refusal.specs.declared.Refusal.{Refusal}
-use Rattle.refusal.specs.Lowest.{lowest}
+use Rattle.refusal.specs.Lent.{lent}
+use Rattle.exponent.specs.declared.Shape.{Shape}
+use Rattle.weights.specs.declared.Side.{Side}
+use Rattle.weights.specs.declared.Side.the-variants.{Bits, Checks}
+use Rattle.weights.specs.declared.Room.{Room}
+use Rattle.weights.specs.Weights.{shapeOf, weightsOf, roomOf}
 use Rattle.square.specs.Table.{tableAt}
 use Rattle.square.specs.Mask.{maskAt, weight}
 use Rattle.square.proofs.Places.{square}
 use Rattle.grid.specs.Plan.{planRows, planCols, tablePlan}
 use Rattle.grid.proofs.Columns.{cols-small}
 use Rattle.table.specs.declared.Built.the-variants.{Built}
-use Rattle.table.specs.Build.{lent, buildRules, builtPlan, built}
+use Rattle.table.specs.Build.{buildRefusal, builtPlan, builtWeights, built}
 use Rattle.table.proofs.Accepted.{Taken, taken, ready, place-fits, accepts, refuses}
+use Rattle.table.proofs.Plans.{built-is-good}
 use Rattle.table.proofs.build.Statement.{statement}
 use Rattle.table.proofs.build.Tie as tie
 
-abbrev rules : tie.Start → Option Refusal
-rules s = lowest (buildRules (s .args .order) (s .args .lift) (s .args .table .now) (s .args .mask .now) (length (s .args .plan .now)))
+module _ (s : tie.Start) where
+  abbrev room : Room
+  room = roomOf (s .args .plan .now) (s .args .row-weights .now) (s .args .col-weights .now)
+
+  abbrev refusal : Option Refusal
+  refusal = buildRefusal (s .args .order) (s .args .lift) (s .args .table .now) (s .args .mask .now) (s .args .plan .now) (s .args .row-weights .now) (s .args .col-weights .now)
+
+  abbrev W : ℕ
+  W = weight (s .args .order) (s .args .mask .now)
+
+  -- the plan and its shape, for a weight
+  abbrev plan : ℕ → List ℤ
+  plan L = tablePlan (s .args .order) L (s .args .lift) (tableAt (s .args .order) (s .args .table .now)) (maskAt (s .args .order) (s .args .mask .now))
+
+  abbrev shape : ℕ → Shape
+  shape L = shapeOf (planRows (s .args .order) L) (planCols (s .args .order) L) (s .args .lift)
+
+  -- an answer and what a lent list then holds, from what the rules give
+  module _ (o : Option Refusal) (e : refusal ≡ o) where
+    answers : built o (s .args .order) W ≡ built refusal (s .args .order) W
+    answers = sym (ap (λ (x : Option Refusal). built x (s .args .order) W) e)
+
+    leaves : {A : Type 0} (new old : List A) → lent o new old ≡ lent refusal new old
+    leaves new old = sym (ap (λ (x : Option Refusal). lent x new old) e)
+
+-- the start, from behind the judge; and what lies before, from behind each filling
+abbrev start : tie.After-judge → tie.Start
+start c = c .before .before .before .before
+
+abbrev judged : tie.After-fill → tie.After-weight
+judged c = c .before .before .before
+
+abbrev written : tie.After-fill2 → tie.After-fill
+written c = c .before .before .before .before .before
 
 -- the rules give nothing, and the weight is that of the mask
-passed : (c : tie.After-weight) → let s = c .before .before .before .before in (rules s ≡ none) × (c .weight .given .0 .0 ≡ weight (s .args .order) (s .args .mask .now))
+passed : (c : tie.After-weight) → let s = start (c .before .before) in (refusal s ≡ none) × (c .weight .given .0 .0 ≡ W s)
 passed c = accepts _ _ _ (sym (c .weight .given .1) ∙ c .before .before .judge .ensures)
 
-all-taken : (c : tie.After-weight) → let s = c .before .before .before .before in
-    Taken (s .args .order) (s .args .lift) (s .args .table .now) (s .args .mask .now) (length (s .args .plan .now))
+all-taken : (c : tie.After-weight) → let s = start (c .before .before) in Taken (s .args .order) (s .args .lift) (s .args .table .now) (s .args .mask .now) (room s)
 all-taken c = taken _ _ _ _ _ (passed c .0)
 
-small : (c : tie.After-weight) → (c .before .before .before .before .args .order < 8) × (c .weight .given .0 .0 < 8)
+small : (c : tie.After-weight) → (start (c .before .before) .args .order < 8) × (c .weight .given .0 .0 < 8)
 small c =
     let t = all-taken c in
     let h = t .of-table .most-order in
     (omega arith, omega (arith, passed c .1, t .of-mask .most))
+
+-- the weights of the plan that was written are what a list is to hold then
+weights : (c : tie.After-fill) (side : Side) (old : List ℕ) → let w = judged c in let s = start (w .before .before) in
+    weightsOf (c .fill .last .1 .1 .1 .0) (shape s (w .weight .given .0 .0)) side ≡ lent (refusal s) (builtWeights (s .args .order) (s .args .lift) (s .args .table .now) (s .args .mask .now) side) old
+unfolding builtPlan builtWeights
+weights c side old =
+    let w = judged c in
+    let s = start (w .before .before) in
+    let (e, same) = passed w in
+    ap (λ (l : List ℤ). weightsOf l (shape s (w .weight .given .0 .0)) side) (c .fill .ensures)
+    ∙ ap (λ (L : ℕ). weightsOf (plan s L) (shape s L) side) same
+    ∙ leaves s none e (builtWeights (s .args .order) (s .args .lift) (s .args .table .now) (s .args .mask .now) side) old
 
 judge-requires : tie.Need-judge-requires
 judge-requires c κs = search needs
@@ -41,27 +91,35 @@ judge-requires c κs = search needs
 enum-known-weight : tie.Need-enum-known-weight
 enum-known-weight c = search needs
 
+mul-rows : tie.Need-mul-rows
+mul-rows c = let h = small (c .before) in omega (arith, square _ _ (h .1) (h .0))
+
+mul-rows-2 : tie.Need-mul-rows-2
+mul-rows-2 c = let h = small (c .before) in omega (arith, square _ _ (h .1) (h .0))
+
+mul-cols : tie.Need-mul-cols
+mul-cols c = let h = small (c .before) in omega (arith, square _ _ (h .1) (h .1))
+
+mul-cols-2 : tie.Need-mul-cols-2
+mul-cols-2 c = let h = small (c .before) in omega (arith, cols-small _ _ (h .0) (h .1))
+
 fill-requires : tie.Need-fill-requires
 fill-requires c κs =
     let w = c .before .before in
-    let s = w .before .before .before .before in
+    let s = start (w .before .before) in
     let a = s .args in
     rw (passed w .1) (
-      ready (a .order) (a .lift) (a .table .now) (a .mask .now) (length (a .plan .now)) (all-taken w),
-      place-fits (a .order) (a .lift) (a .table .now) (a .mask .now) (length (a .plan .now)) (all-taken w),
+      ready (a .order) (a .lift) (a .table .now) (a .mask .now) (room s) (all-taken w),
+      place-fits (a .order) (a .lift) (a .table .now) (a .mask .now) (room s) (all-taken w),
     )
 
-mul-t15 : tie.Need-mul-t15
-mul-t15 c = let h = small (c .before .before .before .before) in omega (arith, square _ _ (h .1) (h .0))
-
-mul-t16 : tie.Need-mul-t16
-mul-t16 c = let h = small (c .before .before .before .before) in omega (arith, square _ _ (h .1) (h .0))
-
-mul-t17 : tie.Need-mul-t17
-mul-t17 c = let h = small (c .before .before .before .before) in omega (arith, square _ _ (h .1) (h .1))
-
-mul-t18 : tie.Need-mul-t18
-mul-t18 c = let h = small (c .before .before .before .before) in omega (arith, cols-small _ _ (h .0) (h .1))
+fill-requires-2 : tie.Need-fill-requires-2
+unfolding builtPlan
+fill-requires-2 c κs =
+    let f = c .before .before .before .before in
+    let w = judged f in
+    let t = all-taken w in
+    rw (f .fill .ensures, passed w .1) (built-is-good _ _ _ _ _ (passed w .0) .is-well-formed, t .row-list, t .col-list)
 
 enum-known-r : tie.Need-enum-known-r
 enum-known-r c = search needs
@@ -69,29 +127,33 @@ enum-known-r c = search needs
 same-length : tie.Need-same-length
 same-length c = search needs
 
+same-length-2 : tie.Need-same-length-2
+same-length-2 c = search needs
+
+same-length-3 : tie.Need-same-length-3
+same-length-3 c = search needs
+
 returns : tie.Need-returns
 unfolding builtPlan
 returns c =
-    let w = c .before .before .before .before in
-    let s = w .before .before .before .before in
-    let a = s .args in
-    let p = passed w in
-    let W = weight (a .order) (a .mask .now) in (
-      ap (λ (L : ℕ). Built (planRows (a .order) L) (planCols (a .order) L)) (p .1) ∙ sym (ap (λ (o : Option Refusal). built o (a .order) W) (p .0)),
-      c .before .fill .ensures
-          ∙ ap (λ (L : ℕ). tablePlan (a .order) L (a .lift) (tableAt (a .order) (a .table .now)) (maskAt (a .order) (a .mask .now))) (p .1)
-          ∙ sym (ap (λ (o : Option Refusal). lent o (builtPlan (a .order) (a .lift) (a .table .now) (a .mask .now)) (a .plan .now)) (p .0)),
+    let g = c .before .before .before .before in
+    let f = written g in
+    let w = judged f in
+    let s = start (w .before .before) in
+    let (e, same) = passed w in (
+      ap (λ (L : ℕ). Built (planRows (s .args .order) L) (planCols (s .args .order) L)) same ∙ answers s none e,
+      (
+        f .fill .ensures ∙ ap (plan s) same ∙ leaves s none e _ _,
+        (g .fill2 .ensures .0 ∙ weights f Checks (s .args .row-weights .now), g .fill2 .ensures .1 ∙ weights f Bits (s .args .col-weights .now)),
+      ),
     )
 
 returns-2 : tie.Need-returns-2
 returns-2 c =
     let r = c .before in
-    let s = r .before .before .before .before in
-    let a = s .args in
-    let e : rules s ≡ some (r .r .given .0 .0) = refuses _ _ _ (sym (r .r .given .1) ∙ r .before .before .judge .ensures) in (
-      sym (ap (λ (o : Option Refusal). built o (a .order) (weight (a .order) (a .mask .now))) e),
-      sym (ap (λ (o : Option Refusal). lent o (builtPlan (a .order) (a .lift) (a .table .now) (a .mask .now)) (a .plan .now)) e),
-    )
+    let j = r .before .before in
+    let e : refusal (start j) ≡ some (r .r .given .0 .0) = refuses _ _ _ (sym (r .r .given .1) ∙ j .judge .ensures) in
+    (answers (start j) _ e, (leaves (start j) _ e _ _, (leaves (start j) _ e _ _, leaves (start j) _ e _ _)))
 
 pub build-spec : {M : Type 1} → statement M
 build-spec =
@@ -99,12 +161,15 @@ build-spec =
     (tie.spec
     judge-requires
     enum-known-weight
+    mul-rows
+    mul-rows-2
+    mul-cols
+    mul-cols-2
     fill-requires
-    mul-t15
-    mul-t16
-    mul-t17
-    mul-t18
+    fill-requires-2
     enum-known-r
     same-length
+    same-length-2
+    same-length-3
     returns
     returns-2)

@@ -1,5 +1,6 @@
 //! alist text by building strings, and its comparison by splitting into tokens, in both forms of an alist.
 use super::graph::graph;
+use super::weights::{weights, Weights};
 use super::{plan, refused};
 use qcldpc::{Plan, Refusal};
 use std::fmt::Write;
@@ -56,16 +57,23 @@ pub fn text(plan: &Plan) -> String {
     text_in(plan, Form::Padded)
 }
 
-/// The length of the text or a refusal, and the lent place as it is then.
-pub fn write(plan: &Plan, lent: &[u8]) -> (Result<usize, Refusal>, Vec<u8>) {
-    if let Err(refusal) = plan::check(plan) {
-        return (Err(refusal), lent.to_vec());
-    }
+/// The text, where it fits into a place of some bytes, and the lists beside the plan are its weights.
+fn fitting(plan: &Plan, beside: &Weights, places: usize) -> Result<String, Refusal> {
+    plan::check(plan)?;
     let text = text(plan);
-    if lent.len() < text.len() {
-        return (Err(refused(17, &[text.len()])), lent.to_vec());
+    if places < text.len() {
+        return Err(refused(17, &[text.len()]));
     }
-    (Ok(text.len()), [text.as_bytes(), &lent[text.len()..]].concat())
+    super::weights::check(&weights(plan), beside)?;
+    Ok(text)
+}
+
+/// The length of the text or a refusal, and the lent place as it is then.
+pub fn write(plan: &Plan, beside: &Weights, lent: &[u8]) -> (Result<usize, Refusal>, Vec<u8>) {
+    match fitting(plan, beside, lent.len()) {
+        Err(refusal) => (Err(refusal), lent.to_vec()),
+        Ok(text) => (Ok(text.len()), [text.as_bytes(), &lent[text.len()..]].concat()),
+    }
 }
 
 /// How long the token is that begins at a place of a text; 0 where a blank stands there.
@@ -100,16 +108,18 @@ fn departure(alist: &str, text: &[u8], form: Form) -> Option<usize> {
     (given.len() < expected.len()).then_some(text.len())
 }
 
-/// A plan's alist in both forms.
+/// A plan's alist in both forms, and its weights.
 pub struct Alist {
     padded: String,
     unpadded: String,
+    weights: Weights,
 }
 
 /// The alist of a plan, or why the plan is refused.
 pub fn alist(plan: &Plan) -> Result<Alist, Refusal> {
     plan::check(plan)?;
-    Ok(Alist { padded: text_in(plan, Form::Padded), unpadded: text_in(plan, Form::Unpadded) })
+    let [padded, unpadded] = [Form::Padded, Form::Unpadded].map(|form| text_in(plan, form));
+    Ok(Alist { padded, unpadded, weights: weights(plan) })
 }
 
 /// Where a text first departs from each form; none where it agrees with that form whole.
@@ -125,10 +135,10 @@ pub fn departures(alist: &Alist, text: &[u8]) -> Departures {
     }
 }
 
-/// A text agrees that departs from one form nowhere; else the later place is shown.
-pub fn compare(departures: &Departures) -> Result<(), Refusal> {
+/// A text agrees that departs from one form nowhere; else the later place is shown. Then the lists beside the plan are looked at.
+pub fn compare(alist: &Alist, departures: &Departures, beside: &Weights) -> Result<(), Refusal> {
     match (departures.padded, departures.unpadded) {
         (Some(padded), Some(unpadded)) => Err(refused(21, &[padded.max(unpadded)])),
-        _ => Ok(()),
+        _ => super::weights::check(&alist.weights, beside),
     }
 }

@@ -1,6 +1,7 @@
 //! What the calls should answer, written from the requirement alone: slow, plain, and sharing nothing with the library but the
 //! types of the answers.
 pub mod alist;
+pub mod change;
 pub mod fill;
 pub mod gf2;
 pub mod girth;
@@ -8,6 +9,7 @@ pub mod graph;
 pub mod plan;
 pub mod steiner;
 pub mod table;
+pub mod weights;
 pub mod word;
 
 use qcldpc::Refusal;

@@ -1,5 +1,6 @@
 //! The supplied Steiner triple systems, and the plans built from them.
 use super::refused;
+use super::weights::{have_room, laid, Places};
 use qcldpc::{Built, Refusal};
 use std::collections::BTreeSet;
 
@@ -40,25 +41,26 @@ pub fn system(order: usize) -> Option<Vec<Triple>> {
 }
 
 /// All refusals that apply, the lowest first. An order that is not supplied has no bits and needs no length.
-pub fn refusals(order: usize, lift: usize, voltages: &[i16], places: usize) -> Vec<Refusal> {
+pub fn refusals(order: usize, lift: usize, voltages: &[i16], lent: &Places) -> Vec<Refusal> {
     let system = system(order);
-    let cols = system.as_ref().map(|triples| triples.len() as u128);
+    let cols = system.as_ref().map(Vec::len);
     let negative = voltages.iter().position(|&voltage| voltage < 0);
-    let needed = |cols: u128| voltages.len() as u128 == 3 * cols && places as u128 == order as u128 * cols;
+    let needed = |cols: usize| voltages.len() == 3 * cols && lent.plan.len() == order * cols;
     let rules = [
         (!(1..=4096).contains(&lift), refused(3, &[])),
-        (cols.is_some_and(|cols| cols * lift as u128 > 65536), refused(4, &[])),
+        (cols.is_some_and(|cols| cols as u128 * lift as u128 > 65536), refused(4, &[])),
         (negative.is_some(), refused(6, &[negative.unwrap_or(0)])),
         (system.is_none(), refused(22, &[])),
         (cols.is_some_and(|cols| !needed(cols)), refused(23, &[])),
+        (cols.is_some_and(|cols| !have_room(&lent.weights, order, cols)), refused(25, &[])),
     ];
     rules.into_iter().filter_map(|(applies, refusal)| applies.then_some(refusal)).collect()
 }
 
-/// The answer, and the lent list as it is then.
-pub fn build(order: usize, lift: usize, voltages: &[i16], lent: &[i16]) -> (Result<Built, Refusal>, Vec<i16>) {
-    if let Some(lowest) = refusals(order, lift, voltages, lent.len()).into_iter().next() {
-        return (Err(lowest), lent.to_vec());
+/// The answer, and the lent lists as they are then.
+pub fn build(order: usize, lift: usize, voltages: &[i16], lent: &Places) -> (Result<Built, Refusal>, Places) {
+    if let Some(lowest) = refusals(order, lift, voltages, lent).into_iter().next() {
+        return (Err(lowest), lent.clone());
     }
     let triples = system(order).expect("an order that is not refused");
     let cols = triples.len();
@@ -68,5 +70,5 @@ pub fn build(order: usize, lift: usize, voltages: &[i16], lent: &[i16]) -> (Resu
             plan[point * cols + j] = (voltages[3 * j + k] as usize % lift) as i16;
         }
     }
-    (Ok(Built { rows: order, cols }), plan)
+    (Ok(Built { rows: order, cols }), laid(plan, order, cols))
 }

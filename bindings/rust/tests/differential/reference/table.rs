@@ -1,5 +1,6 @@
 //! Tables, masks and the plans built from them.
 use super::refused;
+use super::weights::{have_room, laid, Places};
 use qcldpc::{Built, Refusal};
 
 fn check_order(order: usize) -> Result<(), Refusal> {
@@ -83,17 +84,26 @@ fn check(order: usize, lift: usize, table: &[i16], mask: &[u8]) -> Result<usize,
     Ok(l)
 }
 
-/// The answer, and the lent list as it is then.
-pub fn build(order: usize, lift: usize, table: &[i16], mask: &[u8], lent: &[i16]) -> (Result<Built, Refusal>, Vec<i16>) {
-    let l = match check(order, lift, table, mask) {
-        Err(refusal) => return (Err(refusal), lent.to_vec()),
-        Ok(l) => l,
+/// The plan with its rows and columns, where neither table nor mask is refused.
+pub fn built(order: usize, lift: usize, table: &[i16], mask: &[u8]) -> Result<(Built, Vec<i16>), Refusal> {
+    let l = check(order, lift, table, mask)?;
+    Ok((Built { rows: 3 * l * order, cols: order * l * l }, plan(order, l, lift, table, mask)))
+}
+
+/// The answer, and the lent lists as they are then.
+pub fn build(order: usize, lift: usize, table: &[i16], mask: &[u8], lent: &Places) -> (Result<Built, Refusal>, Places) {
+    let (sizes, plan) = match built(order, lift, table, mask) {
+        Err(refusal) => return (Err(refusal), lent.clone()),
+        Ok(built) => built,
     };
-    let (rows, cols) = (3 * l * order, order * l * l);
-    if lent.len() != rows * cols {
-        return (Err(refused(15, &[])), lent.to_vec());
+    let Built { rows, cols } = sizes;
+    if lent.plan.len() != rows * cols {
+        return (Err(refused(15, &[])), lent.clone());
     }
-    (Ok(Built { rows, cols }), plan(order, l, lift, table, mask))
+    if !have_room(&lent.weights, rows, cols) {
+        return (Err(refused(25, &[])), lent.clone());
+    }
+    (Ok(sizes), laid(plan, rows, cols))
 }
 
 /// What a row of a table plan stands for.

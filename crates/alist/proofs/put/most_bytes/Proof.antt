@@ -4,7 +4,7 @@ use mathlib.Core.Path.{refl}
 use native.Mathlib.Omega.{arith}
 use native.Mathlib.Nat.{mul-le-mul}
 use borrow.Author.Needs.{needs}
-use Rattle.lines.specs.declared.sides.Side.the-variants.{Bits, Checks}
+use Rattle.weights.specs.declared.Side.the-variants.{Bits, Checks}
 use Rattle.lines.proofs.Lanes.{nodes-few}
 use Rattle.alist.proofs.put.most_bytes.Statement.{statement}
 use Rattle.alist.proofs.put.most_bytes.Tie as tie

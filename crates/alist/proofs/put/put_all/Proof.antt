@@ -12,16 +12,16 @@ use Rattle.alist.proofs.put.put_all.Statement.{statement}
 use Rattle.alist.proofs.put.put_all.Tie as tie
 
 abbrev start : tie.After-most-bytes → tie.Start
-start c = c .before .before .before .before
+start c = c .before .before .before .before .before .before
 
 most-bytes-requires : tie.Need-most-bytes-requires
 most-bytes-requires c κs =
-    let m = c .before .before .before .pre in
+    let m = c .before .before .before .before .before .pre .0 in
     let few = layout-few _ _ _ _ m in
     (small _ _ (m .ready .well), few .0, few .1)
 
 put-text-requires : tie.Need-put-text-requires
-put-text-requires c κs = let m = start (c .before .before) .pre in (m, text-fits _ _ (m .ready .well))
+put-text-requires c κs = let p = start (c .before .before) .pre in (p .0, p .1, text-fits _ _ (p .0 .ready .well))
 
 same-length : tie.Need-same-length
 same-length c = search needs
@@ -32,7 +32,7 @@ returns c =
     let i = p .before .before in
     let t = start (i .before) in
     put-roomy (t .args .text .now) (textOf (linesOf (graphOf (t .args .plan .now) (t .args .l .shape))))
-    (omega (arith, layout-most _ _ _ _ (t .pre), i .before .most-bytes .ensures, i .if1 .taken)) _ _ _ (omega (arith, p .put-text .ensures .place)) (p .put-text .ensures)
+    (omega (arith, layout-most _ _ _ _ (t .pre .0), i .before .most-bytes .ensures, i .if1 .taken)) _ _ _ (omega (arith, p .put-text .ensures .place)) (p .put-text .ensures)
 
 slice-relend-prefix-put-text : tie.Need-slice-relend-prefix-put-text
 slice-relend-prefix-put-text c = search needs
@@ -41,7 +41,7 @@ slice-aggregate-put-text : tie.Need-slice-aggregate-put-text
 slice-aggregate-put-text c = search needs
 
 put-text-requires-2 : tie.Need-put-text-requires-2
-put-text-requires-2 c κs = let m = start (c .before .before) .pre in (m, text-fits _ _ (m .ready .well))
+put-text-requires-2 c κs = let p = start (c .before .before) .pre in (p .0, p .1, text-fits _ _ (p .0 .ready .well))
 
 same-length-2 : tie.Need-same-length-2
 same-length-2 c = search needs
@@ -52,7 +52,7 @@ returns-2 c =
     put-short (start (p .before .before .before) .args .text .now) _ _ _ (p .put-text2 .ensures) (c .if2 .taken)
 
 put-text-requires-3 : tie.Need-put-text-requires-3
-put-text-requires-3 c κs = let m = start (c .before .before .before .before .before .before .before) .pre in (m, text-fits _ _ (m .ready .well))
+put-text-requires-3 c κs = let p = start (c .before .before .before .before .before .before .before) .pre in (p .0, p .1, text-fits _ _ (p .0 .ready .well))
 
 same-length-3 : tie.Need-same-length-3
 same-length-3 c = search needs

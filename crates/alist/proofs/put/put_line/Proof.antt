@@ -1,15 +1,29 @@
 -- `alist::put::put_line` meets its contract: each arm's own. Assumes nothing.
+use Prim.Native.Nat.{_+_, _<_, _^_}
+use mathlib.Core.Path.{subst}
+use lib.ListN.{length}
 use borrow.Author.Needs.{needs}
+use Rattle.exponent.specs.Tanner.{graphOf}
+use Rattle.lines.specs.declared.Line.{Line}
+use Rattle.lines.specs.Lines.{lineOf, InLine}
+use Rattle.lines.specs.Text.{lineFrom}
 use Rattle.alist.proofs.put.put_line.Statement.{statement}
 use Rattle.alist.proofs.put.put_line.Tie as tie
 
 enum-known-line : tie.Need-enum-known-line
 enum-known-line c = search needs
 
+abbrev start : tie.After-line → tie.Start
+start c = c .before .before .before .before .before .before .before
+
 put-node-requires : tie.Need-put-node-requires
 put-node-requires c κs =
-    let t = c .before .before .before .before .before .before .before in
-    rw (c .before .before .line .given .1) at (t .pre)
+    let t = start (c .before .before) in
+    let told = c .before .before .line .given .1 in (
+      t .pre .0,
+      subst (InLine (t .args .l)) told (t .pre .2),
+      subst (λ (line : Line). t .args .at + length (lineFrom 0 (lineOf (graphOf (t .args .plan .now) (t .args .l .shape)) line)) < 2 ^ 64) told (t .pre .3),
+    )
 
 put-numbers-requires : tie.Need-put-numbers-requires
 put-numbers-requires c κs = search needs

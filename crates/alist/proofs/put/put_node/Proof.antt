@@ -8,10 +8,9 @@ use borrow.Author.Needs.{needs}
 use Rattle.writing.proofs.Wrote.{Going, going-start, part-room, part-done, last-done}
 use Rattle.exponent.specs.Tanner.{graphOf}
 use Rattle.lines.specs.declared.Line.the-variants.{Node}
-use Rattle.tokens.specs.declared.Form.the-variants.{Padded}
 use Rattle.lines.specs.Lines.{lineOf, mostOf, lineRest}
 use Rattle.lines.specs.Text.{item, lineFrom}
-use Rattle.lines.proofs.Rest.{line-start, line-end, node-next}
+use Rattle.lines.proofs.Rest.{node-start, node-end, node-goes, most-is}
 use Rattle.alist.proofs.Laid.{lineFrom-next, lineFrom-end}
 use Rattle.alist.proofs.put.put_node.Statement.{statement}
 use Rattle.alist.proofs.put.put_node.Tie as tie
@@ -28,7 +27,7 @@ past : (c : tie.After-loop Inv-loop μ-loop) → let a = c .before .before .befo
     lineFrom (c .before .loop .k) (lineRest (a .plan .now) (a .l) (Node (a .side) (a .x)) (mostOf (a .l) (a .side)) (c .before .loop .k) (c .before .loop .from)) ≡ 10 ∷ []
 past c =
     let t = c .before .before .before .before .before .before in
-    lineFrom-end _ _ (line-end (t .args .plan .now) (t .args .l) _ _ (t .pre .0) Padded (Node (t .args .side) (t .args .x)) _ _ (rw (c .before .before .most-of .ensures) at (c .loop-test .left)))
+    lineFrom-end _ _ (node-end (t .args .plan .now) (t .args .l) (t .args .side) (t .args .x) _ _ _ (rw (c .before .before .most-of .ensures) at (c .loop-test .left)))
 
 most-of-requires : tie.Need-most-of-requires Inv-loop μ-loop
 most-of-requires c κs = tt
@@ -36,7 +35,7 @@ most-of-requires c κs = tt
 loop-holds : tie.Need-loop-holds Inv-loop μ-loop
 loop-holds c =
     let t = c .before .before .before .before in
-    (refl, rw (line-start (t .args .plan .now) (t .args .l) _ _ (t .pre .0) Padded (Node (t .args .side) (t .args .x))) (going-start _ _ _))
+    (refl, rw (node-start (t .args .plan .now) (t .args .l) (t .args .side) (t .args .x) (t .pre .0 .ready .well) (most-is _ _ _ _ (t .pre .0) (t .args .side))) (going-start _ _ _))
 
 -- the line goes on with the next neighbour
 goes : (c : tie.After-next-neighbour Inv-loop μ-loop) → let a = c .before .before .before .before .before .before .before .args in
@@ -46,7 +45,7 @@ goes : (c : tie.After-next-neighbour Inv-loop μ-loop) → let a = c .before .be
 goes c =
     let t = c .before .before .before .before .before .before .before in
     let inside = rw (c .before .before .before .most-of .ensures) at (c .before .loop-test .taken) in
-    node-next _ _ _ _ (t .pre .0) (Node (t .args .side) (t .args .x)) _ _ inside _ _ refl _ (c .next-neighbour .ensures) _ inside
+    node-goes (t .args .plan .now) (t .args .l) (t .args .side) (t .args .x) _ _ _ (c .next-neighbour .ensures) _ inside
 
 next-neighbour-requires : tie.Need-next-neighbour-requires Inv-loop μ-loop
 next-neighbour-requires c κs = let t = c .before .before .before .before .before .before in (t .pre .0 .ready, t .pre .1)

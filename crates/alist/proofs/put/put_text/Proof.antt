@@ -9,7 +9,7 @@ use borrow.Author.Needs.{needs}
 use Rattle.writing.proofs.Wrote.{Going, going-start, part-room, part-done, all-done}
 use Rattle.exponent.specs.Tanner.{graphOf}
 use Rattle.tokens.specs.declared.Form.the-variants.{Padded}
-use Rattle.lines.specs.declared.sides.Side.the-variants.{Bits, Checks}
+use Rattle.weights.specs.declared.Side.the-variants.{Bits, Checks}
 use Rattle.lines.specs.Alist.{linesOf}
 use Rattle.lines.specs.Sides.{Small}
 use Rattle.lines.specs.Lines.{lineOf}
@@ -21,47 +21,50 @@ use Rattle.alist.proofs.put.put_text.Statement.{statement}
 use Rattle.alist.proofs.put.put_text.Tie as tie
 
 abbrev Inv-loop : tie.InvT-loop
-Inv-loop text₀ plan down along l count i₀ o₀ text i o =
+Inv-loop text₀ plan down along byrow bycol l count i₀ o₀ text i o =
     (length text ≡ length text₀) × Going text₀ 0 (textOf (linesOf (graphOf plan (l .shape)))) (textOf (linesFrom Padded plan (l .shape) i)) o text
 
 abbrev μ-loop : tie.MeasureT-loop
-μ-loop text₀ plan down along l count i₀ o₀ text i o = count - i
+μ-loop text₀ plan down along byrow bycol l count i₀ o₀ text i o = count - i
+
+abbrev start : tie.After-line-count Inv-loop μ-loop → tie.Start Inv-loop μ-loop
+start c = c .before .before .before .before .before .before
 
 -- the line that a turn writes
-next : (c : tie.After-line-at Inv-loop μ-loop) → let a = c .before .before .before .before .before .before .before .args in
+next : (c : tie.After-line-at Inv-loop μ-loop) → let a = start (c .before .before .before) .args in
     linesFrom Padded (a .plan .now) (a .l .shape) (c .before .before .loop .i)
     ≡ lineOf (graphOf (a .plan .now) (a .l .shape)) (c .line-at .result) ∷ linesFrom Padded (a .plan .now) (a .l .shape) (c .before .before .loop .i + 1)
 next c =
-    let a = c .before .before .before .before .before .before .before .args in
+    let a = start (c .before .before .before) .args in
     lines-next Padded (a .plan .now) (a .l .shape) _ _ (rw (c .before .before .before .line-count .ensures) at (c .before .loop-test .taken)) (c .line-at .ensures .0)
 
 line-count-requires : tie.Need-line-count-requires Inv-loop μ-loop
-line-count-requires c κs = let t = c .before .before .before in small _ (t .args .l .shape) (t .pre .0 .ready .well)
+line-count-requires c κs = let t = c .before .before .before .before .before in small _ (t .args .l .shape) (t .pre .0 .ready .well)
 
 loop-holds : tie.Need-loop-holds Inv-loop μ-loop
 loop-holds c =
-    let t = c .before .before .before .before in
+    let t = start c in
     (refl, rw (lines-start Padded (t .args .plan .now) (t .args .l .shape)) (going-start _ _ _))
 
 line-at-requires : tie.Need-line-at-requires Inv-loop μ-loop
 line-at-requires c κs =
-    let t = c .before .before .before .before .before .before in
+    let t = start (c .before .before) in
     (small _ (t .args .l .shape) (t .pre .0 .ready .well), rw (c .before .before .line-count .ensures) at (c .loop-test .taken))
 
 put-line-requires : tie.Need-put-line-requires Inv-loop μ-loop
 put-line-requires c κs =
-    let t = c .before .before .before .before .before .before .before .before in
+    let t = start (c .before .before .before .before) in
     let i = c .before .before .before .loop .i in
     let line = c .before .line-at in
     let here = lineFrom 0 (lineOf (graphOf (t .args .plan .now) (t .args .l .shape)) (line .result)) in
     let later = textOf (linesFrom Padded (t .args .plan .now) (t .args .l .shape) (i + 1)) in
-    let room = part-room here later (text-next _ _ _ (next (c .before))) (c .before .before .before .loop .inv .1) (2 ^ 64) (omega (arith, t .pre .1)) in
-    (t .pre .0, line .ensures .1, room)
+    let room = part-room here later (text-next _ _ _ (next (c .before))) (c .before .before .before .loop .inv .1) (2 ^ 64) (omega (arith, t .pre .2)) in
+    (t .pre .0, t .pre .1, line .ensures .1, room)
 
 add-i : tie.Need-add-i Inv-loop μ-loop
 add-i c =
     let n = c .before .before .before .before .before in
-    let t = n .before .before .before .before .before .before in
+    let t = start (n .before .before) in
     let h : Small (t .args .l .shape) = small _ (t .args .l .shape) (t .pre .0 .ready .well) in
     omega (arith, n .loop-test .taken, n .before .before .line-count .ensures, nodes-few (t .args .l .shape) Bits h, nodes-few (t .args .l .shape) Checks h)
 
@@ -79,7 +82,7 @@ same-length c = c .before .loop .inv .0
 
 returns : tie.Need-returns Inv-loop μ-loop
 returns c =
-    let t = c .before .before .before .before .before .before in
+    let t = start (c .before .before) in
     all-done (text-end _ (lines-end Padded (t .args .plan .now) (t .args .l .shape) _ (rw (c .before .before .line-count .ensures) at (c .loop-test .left)))) (c .before .loop .inv .1)
 
 pub put-text-spec : {M : Type 1} → statement M

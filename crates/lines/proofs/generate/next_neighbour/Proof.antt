@@ -6,8 +6,9 @@ use native.Mathlib.Omega.{arith}
 use native.Mathlib.Nat.{mod-lt}
 use borrow.Author.Needs.{needs}
 use Rattle.graph.proofs.Decide.{by-le}
-use Rattle.lines.specs.Sides.{lanes, blocks}
-use Rattle.lines.proofs.Lanes.{next-le, rest-hit, rest-none, rest-end, node-lane, blocks-few, small}
+use Rattle.weights.specs.Weights.{lanes, blocks}
+use Rattle.weights.proofs.Weights.{blocks-few}
+use Rattle.lines.proofs.Lanes.{next-le, rest-hit, rest-none, rest-end, node-lane}
 use Rattle.lines.proofs.Rest.{fills-more, fills-zero}
 use Rattle.lines.proofs.generate.next_neighbour.Statement.{statement}
 use Rattle.lines.proofs.generate.next_neighbour.Tie as tie
@@ -50,7 +51,7 @@ add-t13 c =
     let n = c .before .before in
     let a = start n .args in
     let p = start n .pre in
-    let few = blocks-few (a .s) (a .side) (small _ (a .s) (p .0 .well)) in
+    let few = blocks-few (a .s) (a .side) (p .0 .well .few-rows) (p .0 .well .few-cols) in
     let le = next-le (a .plan .now) (a .s) (a .down .now) (a .along .now) (p .0) (a .side) _ _ _ (in-lane (start n)) (inside (n .before .before)) (n .next-block .ensures) in
     omega (arith, le .1, few)
 

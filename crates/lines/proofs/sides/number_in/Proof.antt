@@ -7,8 +7,10 @@ use native.Mathlib.Nat.{mul-le-mul}
 use borrow.Author.Needs.{needs}
 use Rattle.exponent.specs.declared.block.Block.the-variants.{Shift}
 use Rattle.exponent.specs.Plan.{filled}
-use Rattle.lines.specs.Sides.{blocks, blockOn, turned, numberIn}
-use Rattle.lines.proofs.Lanes.{number-past, number-filled, number-unfilled, turned-low, shift-on, small, blocks-few}
+use Rattle.weights.specs.Weights.{blocks, blockOn}
+use Rattle.lines.specs.Sides.{turned, numberIn}
+use Rattle.lines.proofs.Lanes.{number-past, number-filled, number-unfilled, turned-low, shift-on}
+use Rattle.weights.proofs.Weights.{blocks-few}
 use Rattle.lines.proofs.sides.number_in.Statement.{statement}
 use Rattle.lines.proofs.sides.number_in.Tie as tie
 
@@ -25,7 +27,7 @@ inside c =
     let t = start c in
     let e = c .before .before .before .before .before in
     let in-lane : t .args .k < blocks (t .args .s) (t .args .side) = omega (arith, e .before .blocks2 .ensures, e .if1 .left) in
-    let few = blocks-few (t .args .s) (t .args .side) (small _ (t .args .s) (t .pre .0)) in
+    let few = blocks-few (t .args .s) (t .args .side) (t .pre .0 .few-rows) (t .pre .0 .few-cols) in
     (in-lane, mul-le-mul {n₂ = 512} {m₂ = 4096} (omega (arith, few)) (t .pre .0 .small-lift))
 
 small-turn : (c : tie.After-turned) → let a = start (c .before) .args in a .k * a .s .lift + c .turned .result ≤ 2101248

@@ -1,6 +1,6 @@
 -- `planning::cyclic::build` meets its contract: what it lends does for the cyclic plan, or the order is refused. Assumes nothing.
-use Prim.Native.Nat.{_<_}
-use mathlib.Core.Path.{refl, sym, ap, _∙_}
+use Prim.Native.Nat.{ℕ, _<_}
+use mathlib.Core.Path.{refl, sym, ap, subst, _∙_}
 use mathlib.Core.List.{List, _++_}
 use native.Mathlib.Omega.{arith}
 use lib.IntN.{ℤ, pos}
@@ -9,13 +9,19 @@ use lib.Seq.{length-take-le}
 use borrow.Author.Needs.{needs}
 use Rattle.square.proofs.Places.{square}
 use Rattle.grid.proofs.Columns.{cols-small, plan-small}
-use Rattle.planning.proofs.Plans.{side-small, lent-answer, lent-plan}
+use Rattle.weights.specs.declared.Side.the-variants.{Bits, Checks}
+use Rattle.planning.specs.Steps.{Lists}
+use Rattle.planning.proofs.Plans.{side-small, lent-answer, lent-plan, lent-weights}
 use Rattle.planning.proofs.cyclic.build.Statement.{statement}
 use Rattle.planning.proofs.cyclic.build.Tie as tie
 
 -- the side is below 8
 small : (c : tie.After-side) → c .side .result < 8
-small c = omega (arith, side-small (c .before .args .q .order), c .side .ensures)
+small c = omega (arith, side-small (c .before .before .before .args .q .order), c .side .ensures)
+
+-- the lists have the lengths that the side needs
+own-lists : (c : tie.After-side) → let t = c .before .before .before in Lists (c .side .result) (t .args .byrow .now) (t .args .bycol .now)
+own-lists c = let t = c .before .before .before in subst (λ (n : ℕ). Lists n (t .args .byrow .now) (t .args .bycol .now)) (sym (c .side .ensures)) (t .pre)
 
 side-requires : tie.Need-side-requires
 side-requires c κs = search needs
@@ -59,16 +65,30 @@ build-with-requires c κs = search needs
 same-length : tie.Need-same-length
 same-length c = search needs
 
+same-length-2 : tie.Need-same-length-2
+same-length-2 c = search needs
+
+same-length-3 : tie.Need-same-length-3
+same-length-3 c = search needs
+
 returns : tie.Need-returns
 returns c =
-    let b = c .before .before in
-    let l = b .before .before .before .before in
+    let b = c .before .before .before .before .before .before in
+    let l = b .before .before .before .before .before .before in
     let s = l .before in
-    let a = s .before .args in
-    let zeros = replicate 49 (pos 0) in (
-      b .build-with .ensures .0 ∙ lent-answer (a .q) (a .plan .now) zeros (s .side .result) (l .least .result) refl (s .side .ensures) (l .least .ensures),
-      ap (λ (p : List ℤ). p ++ drop (l .least .result) (a .plan .now)) (b .build-with .ensures .1)
-          ∙ lent-plan (a .q) (a .plan .now) zeros (s .side .result) (l .least .result) refl (s .side .ensures) (l .least .ensures),
+    let t = s .before .before .before in
+    let a = t .args in
+    let zeros = replicate 49 (pos 0) in
+    let e = b .build-with .ensures in (
+      e .0 ∙ lent-answer (a .q) (a .plan .now) zeros (s .side .result) (l .least .result) refl (s .side .ensures) (l .least .ensures) (a .byrow .now) (a .bycol .now) (own-lists s),
+      (
+        ap (λ (p : List ℤ). p ++ drop (l .least .result) (a .plan .now)) (e .1 .0)
+            ∙ lent-plan (a .q) (a .plan .now) zeros (s .side .result) (l .least .result) refl (s .side .ensures) (l .least .ensures) (a .byrow .now) (a .bycol .now) (own-lists s),
+        (
+          e .1 .1 .0 ∙ lent-weights (a .q) (a .plan .now) zeros (s .side .result) (l .least .result) refl (s .side .ensures) (l .least .ensures) (a .byrow .now) (a .bycol .now) (own-lists s) Checks (a .byrow .now),
+          e .1 .1 .1 ∙ lent-weights (a .q) (a .plan .now) zeros (s .side .result) (l .least .result) refl (s .side .ensures) (l .least .ensures) (a .byrow .now) (a .bycol .now) (own-lists s) Bits (a .bycol .now),
+        ),
+      ),
     )
 
 pub build-spec : {M : Type 1} → statement M
@@ -89,4 +109,6 @@ build-spec =
     slice-aggregate-build-with-3
     build-with-requires
     same-length
+    same-length-2
+    same-length-3
     returns)

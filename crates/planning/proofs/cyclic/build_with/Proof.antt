@@ -16,13 +16,26 @@ same-length c = search needs
 same-length-2 : tie.Need-same-length-2
 same-length-2 c = search needs
 
+same-length-3 : tie.Need-same-length-3
+same-length-3 c = search needs
+
+same-length-4 : tie.Need-same-length-4
+same-length-4 c = search needs
+
 returns : tie.Need-returns
 unfolding tableIn
 returns c =
-    let b = c .before in
-    let t = b .before .before .before .before in
-    rw (t .cyclic .ensures .1) at (b .build .ensures)
+    let b = c .before .before .before .before .before in
+    rw (b .before .before .before .before .before .before .cyclic .ensures .1) at (b .build .ensures)
 
 pub build-with-spec : {M : Type 1} → statement M
 build-with-spec =
-    tie.close (tie.spec cyclic-requires build-requires same-length same-length-2 returns)
+    tie.close
+    (tie.spec
+    cyclic-requires
+    build-requires
+    same-length
+    same-length-2
+    same-length-3
+    same-length-4
+    returns)

@@ -11,7 +11,7 @@ use Rattle.planning.proofs.print.judged.Tie as tie
 
 -- the outcome of the test
 passes : (c : tie.After-test) → c .test .result .outcome ≡ Passed
-passes c = let t = c .before .before in told-passed _ _ _ _ _ (c .test .ensures) (t .pre .0) (t .pre .1)
+passes c = let t = c .before .before .before .before in told-passed _ _ _ _ _ (c .test .ensures) (t .pre .0) (t .pre .1)
 
 test-requires : tie.Need-test-requires
 test-requires c κs = search needs

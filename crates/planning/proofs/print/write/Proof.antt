@@ -23,7 +23,7 @@ same-length c = search needs
 returns : tie.Need-returns
 returns c =
     let w = c .before .before .before .before .before in
-    alist-printed _ _ _ _ _ _ _ (sym (c .before .n .given .1) ∙ w .write .ensures .0) (w .write .ensures .1)
+    alist-printed _ _ _ _ _ _ _ _ _ (sym (c .before .n .given .1) ∙ w .write .ensures .answer) (w .write .ensures .place)
 
 same-length-2 : tie.Need-same-length-2
 same-length-2 c = search needs
@@ -33,7 +33,7 @@ returns-2 c =
     let l = c .before .before in
     let r = l .before .before .before in
     let w = r .before .before .before .before in
-    line-printed _ _ _ _ _ _ _ _ _ (sym (r .r .given .1) ∙ w .write .ensures .0) (w .write .ensures .1) (l .refused .ensures)
+    line-printed _ _ _ _ _ _ _ _ _ _ _ (sym (r .r .given .1) ∙ w .write .ensures .answer) (w .write .ensures .place) (l .refused .ensures)
 
 pub write-spec : {M : Type 1} → statement M
 write-spec =

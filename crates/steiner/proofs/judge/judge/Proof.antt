@@ -2,7 +2,6 @@
 use Prim.Native.Nat.{ℕ, _*_}
 use mathlib.Core.Path.{_≡_, sym, ap, _∙_}
 use mathlib.Core.Bool.{Bool, true, false, not, _||_}
-use mathlib.Core.List.{[]}
 use native.Mathlib.Omega.{arith}
 use lib.Dec.{eqb}
 use lib.ListN.{length, drop}
@@ -12,6 +11,7 @@ use Rattle.refusal.specs.Lowest.{lowest}
 use Rattle.refusal.proofs.Lowest.{lowest-here, lowest-next}
 use Rattle.exponent.specs.Limits.{outside, validity}
 use Rattle.exponent.proofs.Rules.{inside}
+use Rattle.weights.proofs.Lengths.{lengths-fit, rows-unfit, cols-unfit}
 use Rattle.steiner.specs.System.{isOrder, cols}
 use Rattle.steiner.specs.Build.{buildRules}
 use Rattle.steiner.proofs.Orders.{small}
@@ -39,6 +39,9 @@ start-4 c = start-3 (c .before .before)
 
 abbrev start-5 : tie.Else5 → tie.Start
 start-5 c = start-4 (c .before .before)
+
+abbrev start-6 : tie.Else6 → tie.Start
+start-6 c = start-5 (c .before .before)
 
 -- each passed test, and with it one rule more
 lift-in : (c : tie.Else1) → outside 1 4096 (start-1 c .args .lift) ≡ false
@@ -70,6 +73,17 @@ either a b e = ap (λ (x : Bool). x || b) e
 voltages-fit : (c : tie.Else5) → let a = start-5 c .args in
     not (eqb (length (a .voltages .now)) (3 * cols (a .order))) ≡ false
 voltages-fit c = rw (← c .before .cols .ensures) (ap not (eq-eqb _ _ (c .if5 .left)))
+
+past-5 : (c : tie.Else6) → Past 5 (start-6 c)
+unfolding buildRules
+past-5 c =
+    let d = c .before .before in
+    let k = d .before in
+    past-4 (k .before) ∙ lowest-next _ _ _ (either _ _ (voltages-fit d) ∙ rw (← k .cols .ensures) (ap not (eq-eqb _ _ (c .if6 .left))))
+
+-- the plan has as many columns as the order has triples
+columns : (c : tie.Else6) → c .before .before .before .cols .result ≡ cols (start-6 c .args .order)
+columns c = c .before .before .before .cols .ensures
 
 outside-requires : tie.Need-outside-requires
 outside-requires c κs = search needs
@@ -113,7 +127,7 @@ returns-5 c =
     let k = c .before in
     let a = start-4 (k .before) .args in
     let e : not (eqb (length (a .voltages .now)) (3 * cols (a .order))) ≡ true = rw (← k .cols .ensures) (ap not (ne-eqb _ _ (c .if5 .taken))) in
-    sym (ap validity (past-4 (k .before) ∙ lowest-here _ _ _ (ap (λ (b : Bool). b || not (eqb (a .room) (a .order * cols (a .order)))) e)))
+    sym (ap validity (past-4 (k .before) ∙ lowest-here _ _ _ (ap (λ (b : Bool). b || not (eqb (a .room .plan) (a .order * cols (a .order)))) e)))
 
 mul-if6 : tie.Need-mul-if6
 mul-if6 c =
@@ -124,14 +138,31 @@ mul-if6 c =
 returns-6 : tie.Need-returns-6
 unfolding buildRules
 returns-6 c =
-    let k = c .before .before in
-    sym (ap validity (past-4 (k .before) ∙ lowest-here _ _ _ (either _ _ (voltages-fit (c .before)) ∙ rw (← k .cols .ensures) (ap not (ne-eqb _ _ (c .if6 .taken))))))
+    let d = c .before .before in
+    let k = d .before in
+    sym (ap validity (past-4 (k .before) ∙ lowest-here _ _ _ (either _ _ (voltages-fit d) ∙ rw (← k .cols .ensures) (ap not (ne-eqb _ _ (c .if6 .taken))))))
 
 returns-7 : tie.Need-returns-7
-unfolding buildRules lowest
+unfolding buildRules
 returns-7 c =
-    let k = c .before .before in
-    sym (ap validity (past-4 (k .before) ∙ lowest-next _ _ [] (either _ _ (voltages-fit (c .before)) ∙ rw (← k .cols .ensures) (ap not (eq-eqb _ _ (c .if6 .left))))))
+    let d = c .before .before in
+    let a = start-6 d .args in
+    sym (ap validity (past-5 d ∙ rows-unfit (a .room) (a .order) (cols (a .order)) (λ e. omega (arith, c .if7 .taken))))
+
+returns-8 : tie.Need-returns-8
+unfolding buildRules
+returns-8 c =
+    let d = c .before .before .before .before in
+    let a = start-6 d .args in
+    sym (ap validity (past-5 d ∙ cols-unfit (a .room) (a .order) (cols (a .order)) (λ e. omega (arith, columns d, c .if8 .taken))))
+
+returns-9 : tie.Need-returns-9
+unfolding buildRules
+returns-9 c =
+    let e = c .before .before in
+    let d = e .before .before in
+    let a = start-6 d .args in
+    sym (ap validity (past-5 d ∙ lengths-fit (a .room) (a .order) (cols (a .order)) (omega (arith, e .if7 .left)) (omega (arith, columns d, c .if8 .left))))
 
 pub judge-spec : {M : Type 1} → statement M
 judge-spec =
@@ -150,4 +181,6 @@ judge-spec =
     returns-5
     mul-if6
     returns-6
-    returns-7)
+    returns-7
+    returns-8
+    returns-9)

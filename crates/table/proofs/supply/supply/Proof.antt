@@ -9,12 +9,13 @@ use borrow.Author.Tests.{eq-eqb, ne-eqb}
 use borrow.Author.Needs.{needs}
 use Rattle.refusal.specs.declared.Refusal.{Refusal}
 use Rattle.refusal.specs.Lowest.{lowest}
+use Rattle.refusal.specs.Lent.{lent}
 use Rattle.refusal.proofs.Lowest.{lowest-here, lowest-next, none-holds}
 use Rattle.exponent.specs.Limits.{outside}
 use Rattle.exponent.proofs.Rules.{inside}
 use Rattle.square.specs.Table.{suppliedTable}
 use Rattle.square.proofs.Places.{square}
-use Rattle.table.specs.Build.{lent, supplyRules, supplied}
+use Rattle.table.specs.Build.{supplyRules, supplied}
 use Rattle.table.proofs.supply.supply.Statement.{statement}
 use Rattle.table.proofs.supply.supply.Tie as tie
 
