@@ -95,12 +95,19 @@ module _ (c : Call) (h : Held) where
       ap (λ (m : List ℕ). getD m lane 0) (sym (weights-stored (h .plan) (c .shape) (c .at) (c .entry) (a .well) (a .row-in) (a .col-in) side))
       ∙ getD-set-other (weightsOf (h .plan) (c .shape) side) (laneOf (c .at) side) lane _ 0 apart
       ∙ ap (λ (m : List ℕ). getD m lane 0) (sym q) in
+      let long : (side : Side) (l : List ℕ) → l ≡ weightsOf (h .plan) (c .shape) side → length (weightsOf (newPlan c h) (c .shape) side) ≡ length l =
+      λ side l q. length-weights (newPlan c h) (c .shape) side ∙ sym (ap length q ∙ length-weights (h .plan) (c .shape) side) in
       record {
+        as-long = (
+          stored-length (h .plan) (c .shape) (c .at) (c .entry) (a .well) (a .row-in) (a .col-in),
+          long Checks (h .rows) (a .weighed .rows-right),
+          long Bits (h .cols) (a .weighed .cols-right),
+        );
         entries = stored-other (h .plan) (c .shape) (c .at) (c .entry) (a .well) (a .row-in) (a .col-in);
         rows = weight Checks (h .rows) (a .weighed .rows-right);
         cols = weight Bits (h .cols) (a .weighed .cols-right);
       })
-      (record { entries = λ place apart. refl; rows = λ row apart. refl; cols = λ col apart. refl })
+      (record { as-long = (refl, refl, refl); entries = λ place apart. refl; rows = λ row apart. refl; cols = λ col apart. refl })
 
   module _ (s : Shape) (true-before : Counted s h) where
     -- a call that is taken names the plan's rows and columns: the lists tell them

@@ -1,4 +1,4 @@
--- One block changed (document 02): the answer of the call, and what the plan and the two lists of weights then hold.
+-- One block changed (document 02, slip 7): the answer of the call, and what the plan and the two lists of weights then hold.
 use Prim.Native.Nat.{ℕ, _+_, _*_, _<_}
 use mathlib.Core.Path.{_≡_}
 use mathlib.Core.Bool.{false, not, _&&_}
@@ -20,7 +20,7 @@ use Rattle.weights.specs.declared.change.Changed.the-variants.{Changed, 
 use Rattle.weights.specs.declared.Side.the-variants.{Bits, Checks}
 use Rattle.weights.specs.Weights.{shapeOf, weightsOf, Weighed, weightRules}
 
--- 24: the block lies in the plan
+-- 24: the block lies outside the plan
 abbrev pub blockRules : Shape → At → List Rule
 blockRules s at = refuse BlockPlace (not (ltb (at .row) (s .rows) && ltb (at .col) (s .cols))) ∷ []
 
@@ -31,6 +31,7 @@ ownRules plan s at entry rows cols = entryRules (s .lift) (plan ++ entry ∷ [])
 unfoldable pub changeRules : List ℤ → Shape → At → ℤ → List ℕ → List ℕ → List Rule
 changeRules plan s at entry rows cols = sizeRules (length plan) (s .rows) (s .cols) (s .lift) ++ ownRules plan s at entry rows cols
 
+-- the answer
 abbrev pub changed : Option Refusal → ChangedAnswer
 changed none = Changed
 changed (some r) = Refused r

@@ -18,9 +18,11 @@ use Rattle.weights.specs.declared.Side.{Side}
 use Rattle.weights.specs.declared.Side.the-variants.{Bits, Checks}
 use Rattle.weights.specs.declared.Room.{Room}
 
+-- a plan's sizes, as one
 abbrev pub shapeOf : ℕ → ℕ → ℕ → Shape
 shapeOf rows cols lift = record { rows = rows; cols = cols; lift = lift }
 
+-- how many lanes a side has, how many blocks each lane, and a lane's block k
 abbrev pub lanes : Shape → Side → ℕ
 lanes s Bits = s .cols
 lanes s Checks = s .rows
@@ -36,6 +38,7 @@ blockOn plan s Checks lane k = blockAt plan (s .cols) (s .lift) lane k
 abbrev pub filledOn : List ℤ → Shape → Side → ℕ → ℕ → Bool
 filledOn plan s side lane k = filled (blockOn plan s side lane k)
 
+-- the weight of a lane
 abbrev pub weightOf : List ℤ → Shape → Side → ℕ → ℕ
 weightOf plan s Bits lane = columnWeight plan (s .rows) (s .cols) (s .lift) lane
 weightOf plan s Checks lane = rowWeight plan (s .cols) (s .lift) lane

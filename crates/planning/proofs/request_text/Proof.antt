@@ -9,7 +9,13 @@ use Rattle.planning.proofs.Answers.{size-small, size-fits, good, shown,
 use Rattle.planning.proofs.request_text.Statement.{statement}
 use Rattle.planning.proofs.request_text.Tie as tie
 
--- the plan as it was lent
+-- where the plan was built, from behind its sizes and behind a refusal; and the plan as it was lent
+abbrev built : tie.After-rows → tie.After-build
+built c = c .before .before .before .before .before .before .before
+
+abbrev turned : tie.After-r → tie.After-build
+turned c = c .before .before .before .before .before .before .before
+
 abbrev lentPlan : tie.After-build → List ℤ
 lentPlan c = c .before .before .before .before .before .before .before .args .plan .now
 
@@ -22,25 +28,25 @@ enum-known-rows c = search needs
 mul-end : tie.Need-mul-end
 mul-end c =
     let r = c .before in
-    let b = r .before .before .before .before .before .before .before in
+    let b = built r in
     omega (arith, size-small _ (lentPlan b) _ _ (b .build .ensures .0) (b .build .ensures .1 .0) _ _ (r .rows .given .1))
 
 slice-reshare-prefix-judged : tie.Need-slice-reshare-prefix-judged
 slice-reshare-prefix-judged c =
     let r = c .before in
-    let b = r .before .before .before .before .before .before .before in
+    let b = built r in
     size-fits _ (lentPlan b) _ _ (b .build .ensures .0) (b .build .ensures .1 .0) _ _ (r .rows .given .1)
 
 slice-aggregate-judged : tie.Need-slice-aggregate-judged
 slice-aggregate-judged c =
     let r = c .before .before in
-    let b = r .before .before .before .before .before .before .before in
+    let b = built r in
     sym (length-take-le _ _ (size-fits _ (lentPlan b) _ _ (b .build .ensures .0) (b .build .ensures .1 .0) _ _ (r .rows .given .1)))
 
 judged-requires : tie.Need-judged-requires
 judged-requires c κs =
     let r = c .before .before .before .before .before in
-    let b = r .before .before .before .before .before .before .before in
+    let b = built r in
     let e = b .build .ensures in
     let g = good _ (lentPlan b) _ _ (e .0) (e .1 .0) _ _ (r .rows .given .1) in
     (g .0, g .1)
@@ -67,7 +73,7 @@ returns : tie.Need-returns
 returns c =
     let j = c .before .before in
     let r = j .before .before .before .before .before .before in
-    let b = r .before .before .before .before .before .before .before in
+    let b = built r in
     let e = b .build .ensures in
     (shown _ (lentPlan b) _ _ (e .0) (e .1 .0) _ _ (r .rows .given .1) _ _ _ _ (e .1 .1 .0) (e .1 .1 .1) _ (j .judged .ensures), e .1 .0)
 
@@ -87,7 +93,7 @@ returns-2 : tie.Need-returns-2
 returns-2 c =
     let j = c .before .before in
     let r = j .before .before .before in
-    let b = r .before .before .before .before .before .before .before in
+    let b = turned r in
     let e = b .build .ensures in
     (turned-away _ (lentPlan b) _ _ (e .0) (e .1 .0) _ (r .r .given .1) _ (j .refused .ensures), e .1 .0)
 

@@ -9,6 +9,13 @@ use Rattle.qcldpc.proofs.Room.{no-room, replied-by, kept, changed}
 use Rattle.qcldpc.proofs.qcldpc_change.Statement.{statement}
 use Rattle.qcldpc.proofs.qcldpc_change.Tie as tie
 
+-- where the call was answered, from behind its reply, and the start
+abbrev called : tie.After-changed → tie.After-change
+called c = c .before .before .before .before .before .before
+
+abbrev start : tie.After-change → tie.Start
+start c = c .before .before .before .before .before .before .before .before
+
 returns : tie.Need-returns
 returns c = (no-room (omega arith), (kept (omega arith), (kept (omega arith), kept (omega arith))))
 
@@ -37,8 +44,8 @@ returns-2 : tie.Need-returns-2
 returns-2 c =
     let g = c .before .before in
     let r = g .before .before in
-    let a = r .before .before .before .before .before .before in
-    let t = a .before .before .before .before .before .before .before .before in
+    let a = called r in
+    let t = start a in
     let e : toZ w16 (ofZ w16 (t .args .entry)) ≡ t .args .entry = search needs in
     let q = rw e at (a .change .ensures) in (
       replied-by changedReply (a .change .result) (q .0) (omega arith) (r .changed .result) (r .changed .ensures) (g .give .ensures),

@@ -27,6 +27,13 @@ asked t = call (t .args .rows) (t .args .cols) (t .args .lift) (t .args .row) (t
 abbrev given : tie.Start → Held
 given t = held (t .args .plan .now) (t .args .row-weights .now) (t .args .col-weights .now)
 
+-- the start, from behind the judge; and where it judged, from behind the storing
+abbrev start : tie.After-judge → tie.Start
+start c = c .before .before .before .before .before .before
+
+abbrev before-store : tie.After-store → tie.After-judge
+before-store c = c .before .before .before .before .before .before
+
 judged : (t : tie.Start) (v : Validity)
     → v ≡ validity (lowest (changeRules (t .args .plan .now) (asked t .shape) (asked t .at) (toZ w16 (ofZ w16 (t .args .entry))) (t .args .row-weights .now) (t .args .col-weights .now)))
     → v ≡ validity (refusalOf (asked t) (given t))
@@ -60,8 +67,8 @@ returns : tie.Need-returns
 returns c =
     let p = c .before .before .before .before in
     let st = p .before in
-    let j = st .before .before .before .before .before .before in
-    let t = j .before .before .before .before .before .before in
+    let j = before-store st in
+    let t = start j in
     let o = plan-rules.valid-none _ (sym (judged t _ (j .judge .ensures)) ∙ st .before .before .before .before .enum-told .given .1) in
     let e = taken (asked t) (given t) o in
     let new : ℤ → List ℤ = λ z. stored (t .args .plan .now) (asked t .shape) (asked t .at) z in (
@@ -88,7 +95,7 @@ returns-2 : tie.Need-returns-2
 returns-2 c =
     let r = c .before in
     let j = r .before .before in
-    let t = j .before .before .before .before .before .before in
+    let t = start j in
     let o = plan-rules.refused-some _ _ (sym (judged t _ (j .judge .ensures)) ∙ r .r .given .1) in
     let e = stays (asked t) (given t) _ o in
     (sym (ap changed o), (sym (ap (λ (h : Held). h .plan) e), (sym (ap (λ (h : Held). h .rows) e), sym (ap (λ (h : Held). h .cols) e))))

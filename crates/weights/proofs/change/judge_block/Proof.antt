@@ -21,22 +21,31 @@ use Rattle.weights.proofs.change.judge_block.Tie as tie
 real : (t : tie.Start) → toZ w16 (ofZ w16 (t .args .entry)) ≡ t .args .entry
 real t = search needs
 
+-- the start, from behind each test
+abbrev start-1 : tie.Else1 → tie.Start
+start-1 c = c .before .before .before .before
+
+abbrev start-2 : tie.Else2 → tie.Start
+start-2 c = start-1 (c .before .before .before)
+
+abbrev start-3 : tie.Else3 → tie.Start
+start-3 c = start-2 (c .before .before .before)
+
 -- each passed test
-past-entry : (c : tie.Else1) → let t = c .before .before .before .before in let a = t .args in
+past-entry : (c : tie.Else1) → let a = start-1 c .args in
     lowest (ownRules (a .plan .now) (a .s) (a .at) (a .entry) (a .byrow .now) (a .bycol .now)) ≡ lowest (blockRules (a .s) (a .at) ++ weightRules (a .plan .now) (a .s) (a .byrow .now) (a .bycol .now))
 past-entry c =
-    let t = c .before .before .before .before in
+    let t = start-1 c in
     let a = t .args in
     entry-accepted (a .plan .now) (a .s) (a .at) (a .entry) (a .byrow .now) (a .bycol .now) (t .pre)
     (ap (invalidEntry (a .s .lift)) (sym (real t)) ∙ sym (c .before .is-invalid .ensures) ∙ c .if1 .left)
 
-past-block : (c : tie.Else3) → let a = c .before .before .before .before .before .before .before .before .before .before .args in
+past-block : (c : tie.Else3) → let a = start-3 c .args in
     lowest (ownRules (a .plan .now) (a .s) (a .at) (a .entry) (a .byrow .now) (a .bycol .now)) ≡ lowest (weightRules (a .plan .now) (a .s) (a .byrow .now) (a .bycol .now))
 past-block c =
+    let a = start-3 c .args in
     let d = c .before .before .before in
-    let e = d .before .before .before in
-    let a = e .before .before .before .before .args in
-    past-entry e ∙ block-in (a .plan .now) (a .s) (a .at) (a .entry) (a .byrow .now) (a .bycol .now) (omega arith) (omega arith)
+    past-entry (d .before .before .before) ∙ block-in (a .plan .now) (a .s) (a .at) (a .entry) (a .byrow .now) (a .bycol .now) (omega arith) (omega arith)
 
 is-invalid-requires : tie.Need-is-invalid-requires
 is-invalid-requires c κs = search needs
@@ -56,14 +65,14 @@ returns c =
 returns-2 : tie.Need-returns-2
 returns-2 c =
     let e = c .before .before .before in
-    let a = e .before .before .before .before .args in
+    let a = start-1 e .args in
     sym (ap validity (past-entry e ∙ row-out (a .plan .now) (a .s) (a .at) (a .entry) (a .byrow .now) (a .bycol .now) (c .if2 .taken)))
 
 returns-3 : tie.Need-returns-3
 returns-3 c =
-    let e = c .before .before .before .before .before .before in
-    let a = e .before .before .before .before .args in
-    sym (ap validity (past-entry e ∙ col-out (a .plan .now) (a .s) (a .at) (a .entry) (a .byrow .now) (a .bycol .now) (c .if3 .taken)))
+    let d = c .before .before .before in
+    let a = start-2 d .args in
+    sym (ap validity (past-entry (d .before .before .before) ∙ col-out (a .plan .now) (a .s) (a .at) (a .entry) (a .byrow .now) (a .bycol .now) (c .if3 .taken)))
 
 are-right-requires : tie.Need-are-right-requires
 are-right-requires c κs = search needs
@@ -71,13 +80,13 @@ are-right-requires c κs = search needs
 returns-4 : tie.Need-returns-4
 returns-4 c =
     let d = c .before .before in
-    let a = d .before .before .before .before .before .before .before .before .before .before .args in
+    let a = start-3 d .args in
     sym (ap validity (past-block d ∙ lists-right (a .plan .now) (a .s) (a .byrow .now) (a .bycol .now) (sym (c .before .are-right .ensures) ∙ c .if4 .taken)))
 
 returns-5 : tie.Need-returns-5
 returns-5 c =
     let d = c .before .before in
-    let a = d .before .before .before .before .before .before .before .before .before .before .args in
+    let a = start-3 d .args in
     sym (ap validity (past-block d ∙ lists-wrong (a .plan .now) (a .s) (a .byrow .now) (a .bycol .now) (sym (c .before .are-right .ensures) ∙ c .if4 .left)))
 
 pub judge-block-spec : {M : Type 1} → statement M

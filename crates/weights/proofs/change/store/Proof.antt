@@ -20,6 +20,13 @@ use Rattle.weights.proofs.Stored.{laneOf, place-in, stored-well, weight
 use Rattle.weights.proofs.change.store.Statement.{statement}
 use Rattle.weights.proofs.change.store.Tie as tie
 
+-- the start, from behind the first counting, and that from behind the second
+abbrev start : tie.After-recount → tie.Start
+start c = c .before .before .before .before .before .before
+
+abbrev first-count : tie.After-recount2 → tie.After-recount
+first-count c = c .before .before .before .before .before
+
 module _ (t : tie.Start) where
   -- the plan as the code has it
   abbrev new : List ℤ
@@ -72,7 +79,7 @@ recount-requires c κs =
 
 recount-requires-2 : tie.Need-recount-requires-2
 recount-requires-2 c κs =
-    let t = c .before .before .before .before .before .before .before .before .before .before in
+    let t = start (c .before .before .before .before) in
     (new-well t, t .pre .col-in, ap length (t .pre .weighed .cols-right) ∙ length-weights (t .args .plan .now) (t .args .s) Bits)
 
 same-length : tie.Need-same-length
@@ -87,8 +94,8 @@ same-length-3 c = search needs
 returns : tie.Need-returns
 returns c =
     let r2 = c .before .before in
-    let r1 = r2 .before .before .before .before .before in
-    let t = r1 .before .before .before .before .before .before in (
+    let r1 = first-count r2 in
+    let t = start r1 in (
       new-is t,
       (
         r1 .recount .ensures ∙ recounted t Checks (t .args .byrow .now) (t .pre .weighed .rows-right),
