@@ -13,9 +13,9 @@
  * Every function returns 0 for a result, or the number of a refusal (README.md, "Refusals"): the lowest that applies, and
  * then nothing lent is changed but the refusal's values, which stand in `out` from out[0] on:
  *     6, 9, 18, 19  the first place        10  i, k, r, t        17  the length needed        21  the place in the text
- * The other refusals have no values. Where the new entry of qcldpc_change is below -1, the place of 6 is rows x cols, one past
- * the plan's last. 24 is a row or column outside the plan; 25, looked at last, a list of weights of the wrong length or, unless
- * the call builds the plan, with a wrong count. Places of `out` that are not named for an answer keep what was in them.
+ * The other refusals have no values. Where only the new entry of qcldpc_change is below -1, the place of 6 is rows x cols, one
+ * past the plan's last. 24 is a row or column outside the plan; 25, looked at last, a list of weights of the wrong length or,
+ * unless the call builds the plan, with a wrong count. Places of `out` that are not named for an answer keep what was in them.
  * `out` needs QCLDPC_OUT places; with fewer, every function returns QCLDPC_NO_ROOM and changes nothing.
  *
  * Nothing is asked of numbers and bytes. Each pointer points to as many elements as the length behind it says (none are
