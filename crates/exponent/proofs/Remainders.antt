@@ -1,7 +1,7 @@
 -- Slip 4: plans with the same empty blocks and equal remainders have the same refusals 1 to 6 and the same Tanner graph. Assumes nothing.
 use Prim.Native.Nat.{ℕ, zero, suc, _+_, _*_, _/_, _%_}
-use mathlib.Core.Path.{_≡_, refl, ap}
-use mathlib.Core.List.{List, _++_}
+use mathlib.Core.Path.{_≡_, refl, sym, ap, _∙_}
+use mathlib.Core.List.{List, [], _++_, append-nil}
 use lib.IntN.{ℤ}
 use lib.ListN.{length}
 use Rattle.graph.specs.Count.{below, count}
@@ -13,11 +13,7 @@ use Rattle.exponent.specs.Tanner.{edge, tanner, columnWeight, rowWeight}
 use Rattle.exponent.specs.Remainders.{SameRemainders, none, empty, filled}
 
 module _ (lift : ℕ) where
-  pub same-length : {p q : List ℤ} → SameRemainders lift p q → length p ≡ length q
-  same-length none = refl
-  same-length (empty s) = ap suc (same-length s)
-  same-length (filled e f h s) = ap suc (same-length s)
-
+  -- with the same numbers behind them, and so by themselves
   pub same-length-then : {p q : List ℤ} → SameRemainders lift p q → (l : List ℤ) → length (p ++ l) ≡ length (q ++ l)
   same-length-then none l = refl
   same-length-then (empty s) l = ap suc (same-length-then s l)
@@ -29,11 +25,12 @@ module _ (lift : ℕ) where
   same-first-then (empty s) l = ap suc (same-first-then s l)
   same-first-then (filled e f h s) l = ap suc (same-first-then s l)
 
-  same-first : {p q : List ℤ} → SameRemainders lift p q → firstPlace (invalidEntry lift) p ≡ firstPlace (invalidEntry lift) q
-  unfolding firstPlace
-  same-first none = refl
-  same-first (empty s) = ap suc (same-first s)
-  same-first (filled e f h s) = ap suc (same-first s)
+  module _ {p q : List ℤ} (same : SameRemainders lift p q) where
+    pub same-length : length p ≡ length q
+    same-length = ap length (sym (append-nil p)) ∙ same-length-then same [] ∙ ap length (append-nil q)
+
+    same-first : firstPlace (invalidEntry lift) p ≡ firstPlace (invalidEntry lift) q
+    same-first = ap (firstPlace (invalidEntry lift)) (sym (append-nil p)) ∙ same-first-then same [] ∙ ap (firstPlace (invalidEntry lift)) (append-nil q)
 
   -- the same block stands at every place
   same-entry : {p q : List ℤ} → SameRemainders lift p q → (place : ℕ) → entryAt p lift place ≡ entryAt q lift place

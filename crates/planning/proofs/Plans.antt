@@ -28,10 +28,11 @@ use Rattle.square.proofs.Places.{square as product}
 use Rattle.grid.specs.Plan.{planRows, planCols}
 use Rattle.table.specs.declared.Built.the-variants.{Built}
 use Rattle.refusal.specs.Lent.{lent}
+use Rattle.refusal.proofs.Lent.{lent-of}
 use Rattle.weights.specs.declared.Side.{Side}
 use Rattle.weights.specs.declared.Room.{Room}
-use Rattle.weights.specs.Weights.{shapeOf, weightsOf, roomOf}
-use Rattle.table.specs.Build.{supplyRules, tableRules, buildRules, buildRefusal, builtPlan, builtWeights, built}
+use Rattle.weights.specs.Weights.{shapeOf, weightsOf, Held, held, withWeights, roomOf}
+use Rattle.table.specs.Build.{supplyRules, tableRules, buildRules, buildRefusal, builtPlan, builtShape, afterBuild, built}
 use Rattle.table.proofs.Accepted.{taken}
 use Rattle.table.proofs.Plans.{GoodPlan, built-is-good}
 use Rattle.planning.specs.declared.request.Request.{Request}
@@ -110,8 +111,11 @@ module _ (q : Request) (plan square : List ℤ) (n room : ℕ) (whole : length s
   abbrev mask : List ℕ
   mask = take (n * n) (replicate 49 1)
 
+  abbrev part : Held
+  part = held (take room plan) byrow bycol
+
   abbrev refusal : Option Refusal
-  refusal = buildRefusal (q .order) (q .lift) table mask (take room plan) byrow bycol
+  refusal = buildRefusal (q .order) (q .lift) table mask part
 
   module _ (e : outside 4 7 (q .order) ≡ false) where
     side-is : n ≡ q .order
@@ -144,7 +148,7 @@ module _ (q : Request) (plan square : List ℤ) (n room : ℕ) (whole : length s
     cols-is : length bycol ≡ colsOf q
     cols-is = lists .1 ∙ ap (λ (k : ℕ). k * (k * k)) side-is
 
-    room-is : roomOf (take room plan) byrow bycol ≡ record { plan = min (rowsOf q * colsOf q) (length plan); rows = rowsOf q; cols = colsOf q }
+    room-is : roomOf part ≡ record { plan = min (rowsOf q * colsOf q) (length plan); rows = rowsOf q; cols = colsOf q }
     room-is = λ i. record { plan = length-is i; rows = rows-is i; cols = cols-is i }
 
   pub same-refusal : refusal ≡ lowest (cyclicRules q (length plan))
@@ -153,8 +157,8 @@ module _ (q : Request) (plan square : List ℤ) (n room : ℕ) (whole : length s
       by-bool (outside 4 7 (q .order))
       (λ e. order-refused (q .order) (q .lift) _ _ _ e ∙ sym (order-refused (q .order) (q .lift) _ _ _ e))
       (λ e.
-      ap (λ (t : List ℤ). lowest (buildRules (q .order) (q .lift) t mask (roomOf (take room plan) byrow bycol))) (table-is e)
-      ∙ ap (λ (m : List ℕ). lowest (buildRules (q .order) (q .lift) (suppliedTable Cyclic (q .order)) m (roomOf (take room plan) byrow bycol))) (mask-is e)
+      ap (λ (t : List ℤ). lowest (buildRules (q .order) (q .lift) t mask (roomOf part))) (table-is e)
+      ∙ ap (λ (m : List ℕ). lowest (buildRules (q .order) (q .lift) (suppliedTable Cyclic (q .order)) m (roomOf part))) (mask-is e)
       ∙ ap (λ (k : Room). lowest (buildRules (q .order) (q .lift) (suppliedTable Cyclic (q .order)) (fullMask (q .order)) k)) (room-is e))
 
   -- where nothing is refused, the order is allowed
@@ -175,18 +179,24 @@ module _ (q : Request) (plan square : List ℤ) (n room : ℕ) (whole : length s
       ap (λ (t : List ℤ). builtPlan (q .order) (q .lift) t mask) (table-is e)
       ∙ ap (builtPlan (q .order) (q .lift) (suppliedTable Cyclic (q .order))) (mask-is e)
 
-  pub lent-plan : lent refusal (builtPlan (q .order) (q .lift) table mask) (take room plan) ++ drop room plan
-      ≡ lent (lowest (cyclicRules q (length plan))) (sets plan 0 (cyclicPlan q)) plan
+  abbrev new : Held
+  new = withWeights (builtPlan (q .order) (q .lift) table mask) (builtShape (q .order) (q .lift) mask)
+
+  pub lent-plan : afterBuild (q .order) (q .lift) table mask part .plan ++ drop room plan ≡ lent (lowest (cyclicRules q (length plan))) (sets plan 0 (cyclicPlan q)) plan
   lent-plan =
-      placed refusal (builtPlan (q .order) (q .lift) table mask) (cyclicPlan q) plan room (λ e.
+      ap (λ (l : List ℤ). l ++ drop room plan) (lent-of (λ h. h .plan) refusal new part)
+      ∙ placed refusal (builtPlan (q .order) (q .lift) table mask) (cyclicPlan q) plan room (λ e.
       let o = taken-order e in
       let k : room ≤ length plan = omega arith in
       (same-plan o, sym (length-take-le room plan k) ∙ length-is o ∙ cyclic-fits q (length plan) (sym same-refusal ∙ e) .0, k))
       ∙ ap (λ (o : Option Refusal). lent o (sets plan 0 (cyclicPlan q)) plan) same-refusal
 
-  pub lent-weights : (side : Side) (old : List ℕ) → lent refusal (builtWeights (q .order) (q .lift) table mask side) old ≡ lent (lowest (cyclicRules q (length plan))) (cyclicWeights q side) old
-  unfolding builtWeights cyclicWeights
-  lent-weights side old =
-      either refusal (builtWeights (q .order) (q .lift) table mask side) (cyclicWeights q side) old
-      (λ e. ap₂ (λ (p : List ℤ) (L : ℕ). weightsOf p (shapeOf (planRows (q .order) L) (planCols (q .order) L) (q .lift)) side) (same-plan (taken-order e)) (weight-is e))
-      ∙ ap (λ (o : Option Refusal). lent o (cyclicWeights q side) old) same-refusal
+  -- a list of weights, of the three together
+  pub lent-weights : (side : Side) (of : Held → List ℕ) → of new ≡ weightsOf (new .plan) (builtShape (q .order) (q .lift) mask) side
+      → of (afterBuild (q .order) (q .lift) table mask part) ≡ lent (lowest (cyclicRules q (length plan))) (cyclicWeights q side) (of part)
+  unfolding cyclicWeights
+  lent-weights side of is =
+      lent-of of refusal new part
+      ∙ either refusal (of new) (cyclicWeights q side) (of part)
+      (λ e. is ∙ ap₂ (λ (p : List ℤ) (L : ℕ). weightsOf p (shapeOf (planRows (q .order) L) (planCols (q .order) L) (q .lift)) side) (same-plan (taken-order e)) (weight-is e))
+      ∙ ap (λ (o : Option Refusal). lent o (cyclicWeights q side) (of part)) same-refusal

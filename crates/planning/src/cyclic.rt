@@ -8,7 +8,8 @@ ghost use lib.Seq.{sets};
 ghost use Rattle.refusal.specs.Lowest.{lowest};
 ghost use Rattle.square.specs.Mask.{weight};
 ghost use Rattle.refusal.specs.Lent.{lent};
-ghost use Rattle.table.specs.Build.{buildRefusal, builtPlan, builtWeights, built};
+ghost use Rattle.weights.specs.Weights.{held};
+ghost use Rattle.table.specs.Build.{buildRefusal, afterBuild, built};
 ghost use Rattle.weights.specs.declared.Side.the-variants.{Bits, Checks};
 ghost use Rattle.planning.specs.Output.{cyclicRules, cyclicPlan, cyclicWeights};
 ghost use Rattle.planning.specs.Steps.{sideOf, tableIn, Lists};
@@ -36,13 +37,10 @@ fn build_with(
     byrow: &mut [u16],
     bycol: &mut [u16],
 ) -> Built
-    ensures answer { λ r. ⌜ r ≡ built (buildRefusal (q .order) (q .lift) (tableIn (q .order) (now (square .entry))) (now (mask .entry)) (now (place .entry)) (now (byrow .entry)) (now (bycol .entry))) (q .order) (weight (q .order) (now (mask .entry))) ⌝ }
-    ensures plan { λ _. ⌜ now (place .exit) ≡ lent (buildRefusal (q .order) (q .lift) (tableIn (q .order) (now (square .entry))) (now (mask .entry)) (now (place .entry)) (now (byrow .entry)) (now (bycol .entry)))
-        (builtPlan (q .order) (q .lift) (tableIn (q .order) (now (square .entry))) (now (mask .entry))) (now (place .entry)) ⌝ }
-    ensures rows { λ _. ⌜ now (byrow .exit) ≡ lent (buildRefusal (q .order) (q .lift) (tableIn (q .order) (now (square .entry))) (now (mask .entry)) (now (place .entry)) (now (byrow .entry)) (now (bycol .entry)))
-        (builtWeights (q .order) (q .lift) (tableIn (q .order) (now (square .entry))) (now (mask .entry)) Checks) (now (byrow .entry)) ⌝ }
-    ensures cols { λ _. ⌜ now (bycol .exit) ≡ lent (buildRefusal (q .order) (q .lift) (tableIn (q .order) (now (square .entry))) (now (mask .entry)) (now (place .entry)) (now (byrow .entry)) (now (bycol .entry)))
-        (builtWeights (q .order) (q .lift) (tableIn (q .order) (now (square .entry))) (now (mask .entry)) Bits) (now (bycol .entry)) ⌝ }
+    ensures answer { λ r. ⌜ r ≡ built (buildRefusal (q .order) (q .lift) (tableIn (q .order) (now (square .entry))) (now (mask .entry)) (held (now (place .entry)) (now (byrow .entry)) (now (bycol .entry)))) (q .order) (weight (q .order) (now (mask .entry))) ⌝ }
+    ensures plan { λ _. ⌜ now (place .exit) ≡ afterBuild (q .order) (q .lift) (tableIn (q .order) (now (square .entry))) (now (mask .entry)) (held (now (place .entry)) (now (byrow .entry)) (now (bycol .entry))) .plan ⌝ }
+    ensures rows { λ _. ⌜ now (byrow .exit) ≡ afterBuild (q .order) (q .lift) (tableIn (q .order) (now (square .entry))) (now (mask .entry)) (held (now (place .entry)) (now (byrow .entry)) (now (bycol .entry))) .rows ⌝ }
+    ensures cols { λ _. ⌜ now (bycol .exit) ≡ afterBuild (q .order) (q .lift) (tableIn (q .order) (now (square .entry))) (now (mask .entry)) (held (now (place .entry)) (now (byrow .entry)) (now (bycol .entry))) .cols ⌝ }
 {
     let order = q.order;
     let lift = q.lift;

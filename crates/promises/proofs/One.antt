@@ -26,13 +26,13 @@ use Rattle.peeling.proofs.Rules as fill-rules
 use Rattle.square.specs.Table.{suppliedTable}
 use Rattle.square.specs.Mask.{weight}
 use Rattle.refusal.specs.Lent.{lent}
-use Rattle.weights.specs.declared.Side.the-variants.{Bits, Checks}
-use Rattle.weights.specs.Weights.{roomOf}
-use Rattle.weights.specs.Change.{changeRules, changed, Held, Call, refusalOf}
+use Rattle.weights.specs.Weights.{shapeOf, Held, withWeights, roomOf}
+use Rattle.weights.specs.Change.{changeRules, changed, Call, refusalOf}
 use Rattle.weights.proofs.Rules.{change-rise}
 use Rattle.weights.proofs.Changes.{stays}
-use Rattle.table.specs.Build.{supplyRules, supplied, buildRefusal, builtPlan, builtWeights, built}
+use Rattle.table.specs.Build.{supplyRules, supplied, buildRefusal, builtPlan, builtShape, built}
 use Rattle.table.proofs.Plans as table-rules
+use Rattle.steiner.specs.System.{cols}
 use Rattle.steiner.specs.Build as steiner-build
 use Rattle.steiner.proofs.Plans as steiner-rules
 use Rattle.alist.specs.Calls.{alistText, writeRules, written, laid, comparison}
@@ -89,7 +89,7 @@ in-changed none = refl
 in-changed (some r) = refl
 
 -- a refusal leaves what was lent
-kept : {A : Type 0} (leaves : Option Refusal → List A) (before : List A) → ((r : Refusal) → leaves (some r) ≡ before)
+kept : {A : Type 0} (leaves : Option Refusal → A) (before : A) → ((r : Refusal) → leaves (some r) ≡ before)
     → (o answer : Option Refusal) → answer ≡ o → Unchanged answer before (leaves o)
 kept leaves before same o answer e r q = ap leaves (sym e ∙ q) ∙ same r
 
@@ -135,27 +135,19 @@ promise-1 =
         answered _ _ _ (table-rules.supply-rules-rise order (length table)) (supply-matches order (length table)) (in-supplied _),
         kept (λ o. lent o (suppliedTable family order) table) table (λ r. refl) _ _ (in-supplied (lowest (supplyRules order (length table)))),
       );
-      build = λ order lift table mask plan byrow bycol.
-          let o = buildRefusal order lift table mask plan byrow bycol in
-          let e = in-built o order (weight order mask) in (
-            answered _ _ _ (table-rules.rules-rise order lift table mask (roomOf plan byrow bycol)) (build-matches order lift table mask (roomOf plan byrow bycol)) e,
-            kept (λ o. lent o (builtPlan order lift table mask) plan) plan (λ r. refl) o _ e,
-            kept (λ o. lent o (builtWeights order lift table mask Checks) byrow) byrow (λ r. refl) o _ e,
-            kept (λ o. lent o (builtWeights order lift table mask Bits) bycol) bycol (λ r. refl) o _ e,
+      build = λ order lift table mask h.
+          let e = in-built (buildRefusal order lift table mask h) order (weight order mask) in (
+            answered _ _ _ (table-rules.rules-rise order lift table mask (roomOf h)) (build-matches order lift table mask (roomOf h)) e,
+            kept (λ o. lent o (withWeights (builtPlan order lift table mask) (builtShape order lift mask)) h) h (λ r. refl) _ _ e,
           );
-      steiner = λ order lift voltages plan byrow bycol.
-          let o = steiner-build.buildRefusal order lift voltages plan byrow bycol in
-          let e = in-steiner o order in (
-            answered _ _ _ (steiner-rules.rules-rise order lift voltages (roomOf plan byrow bycol)) (steiner-matches order lift voltages (roomOf plan byrow bycol)) e,
-            kept (λ o. lent o (steiner-build.steinerPlan order lift voltages) plan) plan (λ r. refl) o _ e,
-            kept (λ o. lent o (steiner-build.steinerWeights order lift voltages Checks) byrow) byrow (λ r. refl) o _ e,
-            kept (λ o. lent o (steiner-build.steinerWeights order lift voltages Bits) bycol) bycol (λ r. refl) o _ e,
+      steiner = λ order lift voltages h.
+          let e = in-steiner (steiner-build.buildRefusal order lift voltages h) order in (
+            answered _ _ _ (steiner-rules.rules-rise order lift voltages (roomOf h)) (steiner-matches order lift voltages (roomOf h)) e,
+            kept (λ o. lent o (withWeights (steiner-build.steinerPlan order lift voltages) (shapeOf order (cols order) lift)) h) h (λ r. refl) _ _ e,
           );
       change = λ c h. (
         answered _ _ _ (change-rise (h .plan) (c .shape) (c .at) (c .entry) (h .rows) (h .cols)) (change-matches (h .plan) (c .shape) (c .at) (c .entry) (h .rows) (h .cols)) (changing c h),
-        λ r e. ap (λ (g : Held). g .plan) (stays c h r (sym (in-changed (refusalOf c h)) ∙ e)),
-        λ r e. ap (λ (g : Held). g .rows) (stays c h r (sym (in-changed (refusalOf c h)) ∙ e)),
-        λ r e. ap (λ (g : Held). g .cols) (stays c h r (sym (in-changed (refusalOf c h)) ∙ e)),
+        λ r e. stays c h r (sym (in-changed (refusalOf c h)) ∙ e),
       );
       write = λ plan rows cols lift byrow bycol place. (
         answered _ _ _ (text-rules.write-rise plan rows cols lift byrow bycol place) (write-matches plan rows cols lift byrow bycol place) (in-written _ _),

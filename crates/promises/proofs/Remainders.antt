@@ -17,8 +17,8 @@ use Rattle.exponent.specs.Remainders.{SameRemainders, none, empty, filled}
 use Rattle.exponent.proofs.Remainders.{same-rules, same-graph, same-weights, same-length, same-length-then, same-first-then}
 use Rattle.weights.specs.declared.Side.{Side}
 use Rattle.weights.specs.declared.Side.the-variants.{Bits, Checks}
-use Rattle.weights.specs.Weights.{shapeOf, weightsOf, right}
-use Rattle.weights.specs.Change.{changeRules, changed, stored, Held, Call, held, call, refusalOf, after}
+use Rattle.weights.specs.Weights.{shapeOf, weightsOf, Held, held, right}
+use Rattle.weights.specs.Change.{changeRules, changed, stored, Call, call, refusalOf, after}
 use Rattle.weights.proofs.Weights.{length-weights, weights-at, weights-by}
 use Rattle.weights.proofs.Changes.{taken, stays, was-accepted}
 use Rattle.girth.specs.declared.GirthTest.{GirthTest}

@@ -13,7 +13,7 @@ use Rattle.girth.proofs.Rules.{not-refused as test-accepted}
 use Rattle.table.specs.declared.Built.the-variants.{Built}
 use Rattle.refusal.specs.Lent.{lent}
 use Rattle.weights.specs.declared.Room.{Room}
-use Rattle.weights.specs.Weights.{roomOf}
+use Rattle.weights.specs.Weights.{shapeOf, withWeights, roomOf}
 use Rattle.steiner.specs.System as system
 use Rattle.steiner.specs.Build.{buildRules, buildRefusal, steinerPlan, built}
 use Rattle.steiner.proofs.Listed.{the-list}
@@ -38,14 +38,14 @@ steiner-plan order lift voltages room e =
     }
 
 steiner-plans : SteinerPlans
-steiner-plans order lift voltages place byrow bycol rows cols = go (buildRefusal order lift voltages place byrow bycol) refl
+steiner-plans order lift voltages h rows cols = go (buildRefusal order lift voltages h) refl
   where
-    go : (o : Option Refusal) → buildRefusal order lift voltages place byrow bycol ≡ o → built o order ≡ Built rows cols
-        → SteinerPlan order lift voltages (lent o (steinerPlan order lift voltages) place) rows cols
+    go : (o : Option Refusal) → buildRefusal order lift voltages h ≡ o → built o order ≡ Built rows cols
+        → SteinerPlan order lift voltages (lent o (withWeights (steinerPlan order lift voltages) (shapeOf order (system.cols order) lift)) h .plan) rows cols
     go none q e =
         let r : order ≡ rows = cc in
         let c : system.cols order ≡ cols = cc in
-        subst₂ (SteinerPlan order lift voltages (steinerPlan order lift voltages)) r c (steiner-plan order lift voltages (roomOf place byrow bycol) q)
+        subst₂ (SteinerPlan order lift voltages (steinerPlan order lift voltages)) r c (steiner-plan order lift voltages (roomOf h) q)
     go (some x) q e = absurd (let z : _≡_ {A = ℕ} 0 1 = cc in omega arith)
 
 pub steiner-triples : SteinerTriples

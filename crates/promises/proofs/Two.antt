@@ -33,8 +33,8 @@ use Rattle.grid.specs.Plan.{planRows, planCols}
 use Rattle.table.specs.declared.Built.the-variants.{Built}
 use Rattle.refusal.specs.Lent.{lent}
 use Rattle.weights.specs.declared.Room.{Room}
-use Rattle.weights.specs.Weights.{roomOf}
-use Rattle.table.specs.Build.{buildRules, buildRefusal, builtPlan, built}
+use Rattle.weights.specs.Weights.{withWeights, roomOf}
+use Rattle.table.specs.Build.{buildRules, buildRefusal, builtPlan, builtShape, built}
 use Rattle.table.proofs.Plans.{built-is-good}
 use Rattle.table.proofs.From004.{built-from-004, built-shape-004}
 use Rattle.promises.specs.Two.{ShortCycle, Verdict, Verdicts, Passing, BuiltPlan, BuiltPlans, Recovers, Promise-2}
@@ -101,14 +101,14 @@ built-plan order lift table mask room e =
     }
 
 pub built-plans : BuiltPlans
-built-plans order lift table mask place byrow bycol rows cols = go (buildRefusal order lift table mask place byrow bycol) refl
+built-plans order lift table mask h rows cols = go (buildRefusal order lift table mask h) refl
   where
-    go : (o : Option Refusal) → buildRefusal order lift table mask place byrow bycol ≡ o → built o order (weight order mask) ≡ Built rows cols
-        → BuiltPlan order lift table mask (lent o (builtPlan order lift table mask) place) rows cols
+    go : (o : Option Refusal) → buildRefusal order lift table mask h ≡ o → built o order (weight order mask) ≡ Built rows cols
+        → BuiltPlan order lift table mask (lent o (withWeights (builtPlan order lift table mask) (builtShape order lift mask)) h .plan) rows cols
     go none q e =
         let r : planRows order (weight order mask) ≡ rows = cc in
         let c : planCols order (weight order mask) ≡ cols = cc in
-        subst₂ (BuiltPlan order lift table mask (builtPlan order lift table mask)) r c (built-plan order lift table mask (roomOf place byrow bycol) q)
+        subst₂ (BuiltPlan order lift table mask (builtPlan order lift table mask)) r c (built-plan order lift table mask (roomOf h) q)
     go (some x) q e = absurd (let z : _≡_ {A = ℕ} 0 1 = cc in omega arith)
 
 -- THE FILLER

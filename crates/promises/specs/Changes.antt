@@ -8,15 +8,13 @@ use mathlib.Core.Option.{some}
 use lib.IntN.{ℤ}
 use Rattle.refusal.specs.declared.Refusal.the-variants.{Weights}
 use Rattle.refusal.specs.Lowest.{lowest}
-use Rattle.refusal.specs.Lent.{lent}
 use Rattle.exponent.specs.declared.Shape.{Shape}
-use Rattle.weights.specs.declared.Side.the-variants.{Bits, Checks}
-use Rattle.weights.specs.Weights.{shapeOf}
-use Rattle.weights.specs.Change.{Call, Held, held, refusalOf, after}
+use Rattle.weights.specs.Weights.{shapeOf, Held}
+use Rattle.weights.specs.Change.{Call, refusalOf, after}
 use Rattle.weights.specs.Changes.{afterAll, Counted, OnlyThere}
 use Rattle.square.specs.Mask.{weight}
 use Rattle.table.specs.declared.Built.the-variants.{Built}
-use Rattle.table.specs.Build.{buildRefusal, builtPlan, builtWeights, built}
+use Rattle.table.specs.Build.{buildRefusal, afterBuild, built}
 use Rattle.steiner.specs.Build as steiner
 use Rattle.alist.specs.Calls.{writeRules, compareRules}
 
@@ -33,13 +31,9 @@ pub record StillCounted (s : Shape) (h : Held) : Type 0 where
 
 -- wherever a builder answers that it built, of what the three lent lists hold after any list of changes
 pub record ChangesCounted : Type 0 where
-  pub tables : (order lift : ℕ) (table : List ℤ) (mask : List ℕ) (plan : List ℤ) (byrow bycol : List ℕ) (rows cols : ℕ)
-      → let refusal = buildRefusal order lift table mask plan byrow bycol in
-      built refusal order (weight order mask) ≡ Built rows cols
-      → (calls : List Call) → StillCounted (shapeOf rows cols lift) (afterAll calls (held
-      (lent refusal (builtPlan order lift table mask) plan) (lent refusal (builtWeights order lift table mask Checks) byrow) (lent refusal (builtWeights order lift table mask Bits) bycol)))
-  pub triples : (order lift : ℕ) (voltages plan : List ℤ) (byrow bycol : List ℕ) (rows cols : ℕ)
-      → let refusal = steiner.buildRefusal order lift voltages plan byrow bycol in
-      steiner.built refusal order ≡ Built rows cols
-      → (calls : List Call) → StillCounted (shapeOf rows cols lift) (afterAll calls (held
-      (lent refusal (steiner.steinerPlan order lift voltages) plan) (lent refusal (steiner.steinerWeights order lift voltages Checks) byrow) (lent refusal (steiner.steinerWeights order lift voltages Bits) bycol)))
+  pub tables : (order lift : ℕ) (table : List ℤ) (mask : List ℕ) (h : Held) (rows cols : ℕ)
+      → built (buildRefusal order lift table mask h) order (weight order mask) ≡ Built rows cols
+      → (calls : List Call) → StillCounted (shapeOf rows cols lift) (afterAll calls (afterBuild order lift table mask h))
+  pub triples : (order lift : ℕ) (voltages : List ℤ) (h : Held) (rows cols : ℕ)
+      → steiner.built (steiner.buildRefusal order lift voltages h) order ≡ Built rows cols
+      → (calls : List Call) → StillCounted (shapeOf rows cols lift) (afterAll calls (steiner.afterBuild order lift voltages h))

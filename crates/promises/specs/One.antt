@@ -30,12 +30,11 @@ use Rattle.table.specs.declared.Supplied.the-variants as supplied-answer
 use Rattle.table.specs.declared.Built.{Built}
 use Rattle.table.specs.declared.Built.the-variants as built-answer
 use Rattle.refusal.specs.Lent.{lent}
-use Rattle.weights.specs.declared.Side.the-variants.{Bits, Checks}
 use Rattle.weights.specs.declared.change.Changed.{Changed}
 use Rattle.weights.specs.declared.change.Changed.the-variants as change-answer
-use Rattle.weights.specs.Weights.{roomOf}
-use Rattle.weights.specs.Change.{changed, Held, Call, refusalOf, after}
-use Rattle.table.specs.Build.{supplyRules, supplied, buildRefusal, builtPlan, builtWeights, built}
+use Rattle.weights.specs.Weights.{Held, roomOf}
+use Rattle.weights.specs.Change.{changed, Call, refusalOf, after}
+use Rattle.table.specs.Build.{supplyRules, supplied, buildRefusal, afterBuild, built}
 use Rattle.steiner.specs.Build as steiner-build
 use Rattle.alist.specs.declared.Written.{Written}
 use Rattle.alist.specs.declared.Written.the-variants as written-answer
@@ -83,8 +82,8 @@ abbrev pub ofChanged : Changed → Option Refusal
 ofChanged change-answer.Changed = none
 ofChanged (change-answer.Refused r) = some r
 
--- lent memory, before the call and after it: on a refusal it is as it was
-abbrev pub Unchanged : {A : Type 0} → Option Refusal → List A → List A → Type 0
+-- lent memory, a list or several together, before the call and after it: on a refusal it is as it was
+abbrev pub Unchanged : {A : Type 0} → Option Refusal → A → A → Type 0
 Unchanged answer before after = (r : Refusal) → answer ≡ some r → after ≡ before
 
 -- for each call that can refuse (the count of erasures cannot), over the definitions that its contract equates answer and lent memory with
@@ -111,21 +110,14 @@ pub record Promise-1 : Type 0 where
       let answer = ofSupplied (supplied refusal) in
       LowestOf (SquareRow order (length table)) answer × Unchanged answer table (lent refusal (suppliedTable family order) table)
   -- 3, 7 to 13, 15, and 25 (document 02, slip 7)
-  pub build : (order lift : ℕ) (table : List ℤ) (mask : List ℕ) (plan : List ℤ) (byrow bycol : List ℕ)
-      → let refusal = buildRefusal order lift table mask plan byrow bycol in
-      let answer = ofBuilt (built refusal order (weight order mask)) in
-      LowestOf (LiftRow lift or SquareRow order (length table) or TableRow order lift table or (MaskRow order lift mask or PlaceRow order mask (roomOf plan byrow bycol))) answer
-      × Unchanged answer plan (lent refusal (builtPlan order lift table mask) plan)
-      × Unchanged answer byrow (lent refusal (builtWeights order lift table mask Checks) byrow)
-      × Unchanged answer bycol (lent refusal (builtWeights order lift table mask Bits) bycol)
+  pub build : (order lift : ℕ) (table : List ℤ) (mask : List ℕ) (h : Held)
+      → let answer = ofBuilt (built (buildRefusal order lift table mask h) order (weight order mask)) in
+      LowestOf (LiftRow lift or SquareRow order (length table) or TableRow order lift table or (MaskRow order lift mask or PlaceRow order mask (roomOf h))) answer
+      × Unchanged answer h (afterBuild order lift table mask h)
   -- 3, 4, 6, 22, 23 (document 02, slip 6), 25
-  pub steiner : (order lift : ℕ) (voltages plan : List ℤ) (byrow bycol : List ℕ)
-      → let refusal = steiner-build.buildRefusal order lift voltages plan byrow bycol in
-      let answer = ofBuilt (steiner-build.built refusal order) in
-      LowestOf (LiftRow lift or SteinerRow order lift voltages (roomOf plan byrow bycol)) answer
-      × Unchanged answer plan (lent refusal (steiner-build.steinerPlan order lift voltages) plan)
-      × Unchanged answer byrow (lent refusal (steiner-build.steinerWeights order lift voltages Checks) byrow)
-      × Unchanged answer bycol (lent refusal (steiner-build.steinerWeights order lift voltages Bits) bycol)
+  pub steiner : (order lift : ℕ) (voltages : List ℤ) (h : Held)
+      → let answer = ofBuilt (steiner-build.built (steiner-build.buildRefusal order lift voltages h) order) in
+      LowestOf (LiftRow lift or SteinerRow order lift voltages (roomOf h)) answer × Unchanged answer h (steiner-build.afterBuild order lift voltages h)
   -- 1 to 6, also of the new entry, 24, 25 (document 02, slip 7)
   pub change : (c : Call) (h : Held)
       → let s = c .shape in
@@ -133,7 +125,7 @@ pub record Promise-1 : Type 0 where
       let answer = ofChanged (changed (refusalOf c h)) in
       LowestOf (PlanRow (h .plan) (s .rows) (s .cols) (s .lift) or NewEntryRow (h .plan) (s .rows) (s .cols) (c .entry)
       or (BlockRow (s .rows) (s .cols) (at .row) (at .col) or WeightRow (h .plan) (s .rows) (s .cols) (s .lift) (h .rows) (h .cols))) answer
-      × Unchanged answer (h .plan) (after c h .plan) × Unchanged answer (h .rows) (after c h .rows) × Unchanged answer (h .cols) (after c h .cols)
+      × Unchanged answer h (after c h)
   -- 1 to 6, 17, 25
   pub write : (plan : List ℤ) (rows cols lift : ℕ) (byrow bycol place : List ℕ)
       → let refusal = lowest (writeRules plan rows cols lift byrow bycol place) in

@@ -11,7 +11,8 @@ use Rattle.graph.specs.Girth.{IsGirth}
 use Rattle.exponent.specs.Limits.{planRules, validity}
 use Rattle.exponent.specs.Tanner.{tanner}
 use Rattle.exponent.specs.Remainders.{SameRemainders}
-use Rattle.weights.specs.Change.{changed, Held, Call, held, call, refusalOf, after}
+use Rattle.weights.specs.Weights.{Held, held}
+use Rattle.weights.specs.Change.{changed, Call, call, refusalOf, after}
 use Rattle.girth.specs.declared.GirthTest.{GirthTest}
 use Rattle.girth.specs.Test.{Answer}
 use Rattle.syndrome.specs.Check.{syndromeOf}

@@ -6,10 +6,10 @@ use lib.IntN.{ℤ}
 use Rattle.graph.specs.Erasure.{Codeword}
 use Rattle.exponent.specs.Tanner.{tanner}
 use Rattle.table.specs.declared.Built.the-variants.{Built}
-use Rattle.refusal.specs.Lent.{lent}
+use Rattle.weights.specs.Weights.{Held}
 use Rattle.steiner.specs.System as system
 use Rattle.steiner.specs.Listed.{Listed, PairsOnce}
-use Rattle.steiner.specs.Build.{buildRefusal, steinerPlan, built}
+use Rattle.steiner.specs.Build.{buildRefusal, afterBuild, built}
 use Rattle.steiner.specs.Plans.{TriplePlan}
 use Rattle.promises.specs.Two.{Passing}
 use Rattle.promises.specs.Three.{Loses, Recovered}
@@ -25,10 +25,9 @@ pub record SteinerPlan (order lift : ℕ) (voltages plan : List ℤ) (rows cols 
 -- wherever the builder answers that it built, of what its lent place then holds
 abbrev pub SteinerPlans : Type 0
 SteinerPlans =
-    (order lift : ℕ) (voltages place : List ℤ) (byrow bycol : List ℕ) (rows cols : ℕ)
-    → (let refusal = buildRefusal order lift voltages place byrow bycol in
-    built refusal order ≡ Built rows cols
-    → SteinerPlan order lift voltages (lent refusal (steinerPlan order lift voltages) place) rows cols)
+    (order lift : ℕ) (voltages : List ℤ) (h : Held) (rows cols : ℕ)
+    → built (buildRefusal order lift voltages h) order ≡ Built rows cols
+    → SteinerPlan order lift voltages (afterBuild order lift voltages h .plan) rows cols
 
 -- which triples the list has, that they cover each pair of points once, and what is built from them
 pub record SteinerTriples : Type 0 where

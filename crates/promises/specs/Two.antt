@@ -23,8 +23,8 @@ use Rattle.square.specs.Table.{tableAt}
 use Rattle.square.specs.Mask.{maskAt, weight}
 use Rattle.grid.specs.Source004.{keptColumns, keptRows, target as target004, written}
 use Rattle.table.specs.declared.Built.the-variants.{Built}
-use Rattle.refusal.specs.Lent.{lent}
-use Rattle.table.specs.Build.{buildRefusal, builtPlan, built}
+use Rattle.weights.specs.Weights.{Held}
+use Rattle.table.specs.Build.{buildRefusal, afterBuild, built}
 
 -- A PLAN PASSES at a target exactly when its expanded graph has no simple cycle with fewer edges than the target, and else such a
 -- cycle is shown, of exactly as many edges as the girth (document 02, slip 2).
@@ -68,10 +68,9 @@ pub record BuiltPlan (order lift : ℕ) (table : List ℤ) (mask : List ℕ) (pl
 -- wherever the builder answers that it built, of what its lent place then holds
 abbrev pub BuiltPlans : Type 0
 BuiltPlans =
-    (order lift : ℕ) (table : List ℤ) (mask : List ℕ) (place : List ℤ) (byrow bycol : List ℕ) (rows cols : ℕ)
-    → (let refusal = buildRefusal order lift table mask place byrow bycol in
-    built refusal order (weight order mask) ≡ Built rows cols
-    → BuiltPlan order lift table mask (lent refusal (builtPlan order lift table mask) place) rows cols)
+    (order lift : ℕ) (table : List ℤ) (mask : List ℕ) (h : Held) (rows cols : ℕ)
+    → built (buildRefusal order lift table mask h) order (weight order mask) ≡ Built rows cols
+    → BuiltPlan order lift table mask (afterBuild order lift table mask h .plan) rows cols
 
 -- THE FILLER recovers each lost bit outside the largest set of lost bits that no check touches just once, and no other.
 

@@ -19,10 +19,10 @@ ghost use Rattle.square.specs.Mask.{weight};
 ghost use Rattle.table.specs.declared.Built.{Built};
 ghost use Rattle.table.specs.declared.Supplied.{Supplied};
 ghost use Rattle.refusal.specs.Lent.{lent};
-ghost use Rattle.weights.specs.declared.Side.the-variants.{Bits, Checks};
 ghost use Rattle.weights.specs.declared.change.Changed.{Changed};
-ghost use Rattle.weights.specs.Change.{changed, call, held, refusalOf, after};
-ghost use Rattle.table.specs.Build.{supplyRules, supplied, buildRefusal, builtPlan, builtWeights, built};
+ghost use Rattle.weights.specs.Weights.{held};
+ghost use Rattle.weights.specs.Change.{changed, call, refusalOf, after};
+ghost use Rattle.table.specs.Build.{supplyRules, supplied, buildRefusal, afterBuild, built};
 ghost use Rattle.steiner.specs.Build as steiner;
 ghost use Rattle.alist.specs.declared.Written.{Written};
 ghost use Rattle.alist.specs.declared.Comparison.{Comparison};
@@ -170,14 +170,10 @@ pub extern "C" fn qcldpc_build(
     col_weights: &mut [u16],
     out: &mut [u64],
 ) -> u64
-    ensures answers { λ r. ⌜ Replies Built (λ a. a ≡ built (buildRefusal order lift (now (table .entry)) (now (mask .entry)) (now (plan .entry)) (now («row_weights» .entry)) (now («col_weights» .entry)))
-        order (weight order (now (mask .entry)))) (gives builtReply) (now (out .entry)) r (now (out .exit)) ⌝ }
-    ensures leaves { λ _. ⌜ Leaves (now (out .entry)) (lent (buildRefusal order lift (now (table .entry)) (now (mask .entry)) (now (plan .entry)) (now («row_weights» .entry)) (now («col_weights» .entry)))
-        (builtPlan order lift (now (table .entry)) (now (mask .entry))) (now (plan .entry))) (now (plan .entry)) (now (plan .exit)) ⌝ }
-    ensures rows { λ _. ⌜ Leaves (now (out .entry)) (lent (buildRefusal order lift (now (table .entry)) (now (mask .entry)) (now (plan .entry)) (now («row_weights» .entry)) (now («col_weights» .entry)))
-        (builtWeights order lift (now (table .entry)) (now (mask .entry)) Checks) (now («row_weights» .entry))) (now («row_weights» .entry)) (now («row_weights» .exit)) ⌝ }
-    ensures cols { λ _. ⌜ Leaves (now (out .entry)) (lent (buildRefusal order lift (now (table .entry)) (now (mask .entry)) (now (plan .entry)) (now («row_weights» .entry)) (now («col_weights» .entry)))
-        (builtWeights order lift (now (table .entry)) (now (mask .entry)) Bits) (now («col_weights» .entry))) (now («col_weights» .entry)) (now («col_weights» .exit)) ⌝ }
+    ensures answers { λ r. ⌜ Replies Built (λ a. a ≡ built (buildRefusal order lift (now (table .entry)) (now (mask .entry)) (held (now (plan .entry)) (now («row_weights» .entry)) (now («col_weights» .entry)))) order (weight order (now (mask .entry)))) (gives builtReply) (now (out .entry)) r (now (out .exit)) ⌝ }
+    ensures leaves { λ _. ⌜ Leaves (now (out .entry)) (afterBuild order lift (now (table .entry)) (now (mask .entry)) (held (now (plan .entry)) (now («row_weights» .entry)) (now («col_weights» .entry))) .plan) (now (plan .entry)) (now (plan .exit)) ⌝ }
+    ensures rows { λ _. ⌜ Leaves (now (out .entry)) (afterBuild order lift (now (table .entry)) (now (mask .entry)) (held (now (plan .entry)) (now («row_weights» .entry)) (now («col_weights» .entry))) .rows) (now («row_weights» .entry)) (now («row_weights» .exit)) ⌝ }
+    ensures cols { λ _. ⌜ Leaves (now (out .entry)) (afterBuild order lift (now (table .entry)) (now (mask .entry)) (held (now (plan .entry)) (now («row_weights» .entry)) (now («col_weights» .entry))) .cols) (now («col_weights» .entry)) (now («col_weights» .exit)) ⌝ }
 {
     if out.len() < PLACES {
         return NO_ROOM;
@@ -206,14 +202,10 @@ pub extern "C" fn qcldpc_steiner(
     col_weights: &mut [u16],
     out: &mut [u64],
 ) -> u64
-    ensures answers { λ r. ⌜ Replies Built (λ a. a ≡ steiner.built (steiner.buildRefusal order lift (now (voltages .entry)) (now (plan .entry)) (now («row_weights» .entry)) (now («col_weights» .entry))) order)
-        (gives builtReply) (now (out .entry)) r (now (out .exit)) ⌝ }
-    ensures leaves { λ _. ⌜ Leaves (now (out .entry)) (lent (steiner.buildRefusal order lift (now (voltages .entry)) (now (plan .entry)) (now («row_weights» .entry)) (now («col_weights» .entry)))
-        (steiner.steinerPlan order lift (now (voltages .entry))) (now (plan .entry))) (now (plan .entry)) (now (plan .exit)) ⌝ }
-    ensures rows { λ _. ⌜ Leaves (now (out .entry)) (lent (steiner.buildRefusal order lift (now (voltages .entry)) (now (plan .entry)) (now («row_weights» .entry)) (now («col_weights» .entry)))
-        (steiner.steinerWeights order lift (now (voltages .entry)) Checks) (now («row_weights» .entry))) (now («row_weights» .entry)) (now («row_weights» .exit)) ⌝ }
-    ensures cols { λ _. ⌜ Leaves (now (out .entry)) (lent (steiner.buildRefusal order lift (now (voltages .entry)) (now (plan .entry)) (now («row_weights» .entry)) (now («col_weights» .entry)))
-        (steiner.steinerWeights order lift (now (voltages .entry)) Bits) (now («col_weights» .entry))) (now («col_weights» .entry)) (now («col_weights» .exit)) ⌝ }
+    ensures answers { λ r. ⌜ Replies Built (λ a. a ≡ steiner.built (steiner.buildRefusal order lift (now (voltages .entry)) (held (now (plan .entry)) (now («row_weights» .entry)) (now («col_weights» .entry)))) order) (gives builtReply) (now (out .entry)) r (now (out .exit)) ⌝ }
+    ensures leaves { λ _. ⌜ Leaves (now (out .entry)) (steiner.afterBuild order lift (now (voltages .entry)) (held (now (plan .entry)) (now («row_weights» .entry)) (now («col_weights» .entry))) .plan) (now (plan .entry)) (now (plan .exit)) ⌝ }
+    ensures rows { λ _. ⌜ Leaves (now (out .entry)) (steiner.afterBuild order lift (now (voltages .entry)) (held (now (plan .entry)) (now («row_weights» .entry)) (now («col_weights» .entry))) .rows) (now («row_weights» .entry)) (now («row_weights» .exit)) ⌝ }
+    ensures cols { λ _. ⌜ Leaves (now (out .entry)) (steiner.afterBuild order lift (now (voltages .entry)) (held (now (plan .entry)) (now («row_weights» .entry)) (now («col_weights» .entry))) .cols) (now («col_weights» .entry)) (now («col_weights» .exit)) ⌝ }
 {
     if out.len() < PLACES {
         return NO_ROOM;

@@ -1,3 +1,4 @@
 pub mod Lowest
 pub mod Place
 pub mod Number
+pub mod Lent

@@ -11,10 +11,10 @@ use Rattle.refusal.specs.declared.Refusal.{Refusal}
 use Rattle.refusal.specs.declared.Refusal.the-variants.{Lift, Bits, Entry, SteinerOrder, SteinerLength}
 use Rattle.refusal.specs.Lowest.{Rule, refuse, lowest}
 use Rattle.refusal.specs.Place.{firstPlace, somewhere}
+use Rattle.refusal.specs.Lent.{lent}
 use Rattle.exponent.specs.Limits.{outside}
-use Rattle.weights.specs.declared.Side.{Side}
 use Rattle.weights.specs.declared.Room.{Room}
-use Rattle.weights.specs.Weights.{shapeOf, weightsOf, roomOf, lengthRules}
+use Rattle.weights.specs.Weights.{shapeOf, Held, withWeights, roomOf, lengthRules}
 use Rattle.square.specs.Each.{each}
 use Rattle.square.specs.Table.{signed, natural, negative, block}
 use Rattle.table.specs.declared.Built.{Built as BuiltAnswer}
@@ -31,10 +31,6 @@ buildRules order lift voltages room =
     ∷ refuse SteinerLength (not (eqb (length voltages) (3 * cols order)) || not (eqb (room .plan) (order * cols order)))
     ∷ lengthRules room order (cols order)
 
--- why a call with these three lent lists is refused, if it is
-abbrev pub buildRefusal : ℕ → ℕ → List ℤ → List ℤ → List ℕ → List ℕ → Option Refusal
-buildRefusal order lift voltages plan rows columns = lowest (buildRules order lift voltages (roomOf plan rows columns))
-
 -- the voltage at a place (a negative one, which 6 turns away, is taken for 0)
 abbrev pub voltageAt : List ℤ → ℕ → ℕ
 voltageAt voltages n = natural (signed (getD voltages n (pos 0)))
@@ -47,11 +43,14 @@ entry order lift voltages i j = block (has (tripleAt order j) i) (voltageAt volt
 unfoldable pub steinerPlan : ℕ → ℕ → List ℤ → List ℤ
 steinerPlan order lift voltages = each order (λ i. each (cols order) (λ j. entry order lift voltages i j ∷ []))
 
--- the weights of its rows and of its columns
-unfoldable pub steinerWeights : ℕ → ℕ → List ℤ → Side → List ℕ
-steinerWeights order lift voltages side = weightsOf (steinerPlan order lift voltages) (shapeOf order (cols order) lift) side
+-- THE CALL, of what the three lent lists hold: why it is refused, if it is; the plan with its weights, or all as it was; the answer, in
+-- which points are rows and triples are columns
+abbrev pub buildRefusal : ℕ → ℕ → List ℤ → Held → Option Refusal
+buildRefusal order lift voltages h = lowest (buildRules order lift voltages (roomOf h))
 
--- the answer: points are rows, triples are columns
+abbrev pub afterBuild : ℕ → ℕ → List ℤ → Held → Held
+afterBuild order lift voltages h = lent (buildRefusal order lift voltages h) (withWeights (steinerPlan order lift voltages) (shapeOf order (cols order) lift)) h
+
 abbrev pub built : Option Refusal → ℕ → BuiltAnswer
 built none order = Built order (cols order)
 built (some r) order = Refused r

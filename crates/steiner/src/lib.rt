@@ -1,8 +1,7 @@
 // Steiner triple plans (document 02, slips 6 and 7): rows are the points of a triple system, columns its triples.
 ghost use mathlib.Core.Path.{_≡_};
-ghost use Rattle.refusal.specs.Lent.{lent};
-ghost use Rattle.weights.specs.declared.Side.the-variants.{Bits, Checks};
-ghost use Rattle.steiner.specs.Build.{buildRefusal, steinerPlan, steinerWeights, built};
+ghost use Rattle.weights.specs.Weights.{held};
+ghost use Rattle.steiner.specs.Build.{buildRefusal, afterBuild, built};
 
 mod points; // points.rt: the constant list of all triples
 mod system; // system.rt: the orders, and their triples in the list
@@ -24,13 +23,10 @@ pub fn build(
     row_weights: &mut [u16],
     col_weights: &mut [u16],
 ) -> Built
-    ensures answer { λ r. ⌜ r ≡ built (buildRefusal order lift (now (voltages .entry)) (now (plan .entry)) (now («row_weights» .entry)) (now («col_weights» .entry))) order ⌝ }
-    ensures place { λ _. ⌜ now (plan .exit) ≡ lent (buildRefusal order lift (now (voltages .entry)) (now (plan .entry)) (now («row_weights» .entry)) (now («col_weights» .entry)))
-        (steinerPlan order lift (now (voltages .entry))) (now (plan .entry)) ⌝ }
-    ensures rows { λ _. ⌜ now («row_weights» .exit) ≡ lent (buildRefusal order lift (now (voltages .entry)) (now (plan .entry)) (now («row_weights» .entry)) (now («col_weights» .entry)))
-        (steinerWeights order lift (now (voltages .entry)) Checks) (now («row_weights» .entry)) ⌝ }
-    ensures cols { λ _. ⌜ now («col_weights» .exit) ≡ lent (buildRefusal order lift (now (voltages .entry)) (now (plan .entry)) (now («row_weights» .entry)) (now («col_weights» .entry)))
-        (steinerWeights order lift (now (voltages .entry)) Bits) (now («col_weights» .entry)) ⌝ }
+    ensures answer { λ r. ⌜ r ≡ built (buildRefusal order lift (now (voltages .entry)) (held (now (plan .entry)) (now («row_weights» .entry)) (now («col_weights» .entry)))) order ⌝ }
+    ensures place { λ _. ⌜ now (plan .exit) ≡ afterBuild order lift (now (voltages .entry)) (held (now (plan .entry)) (now («row_weights» .entry)) (now («col_weights» .entry))) .plan ⌝ }
+    ensures rows { λ _. ⌜ now («row_weights» .exit) ≡ afterBuild order lift (now (voltages .entry)) (held (now (plan .entry)) (now («row_weights» .entry)) (now («col_weights» .entry))) .rows ⌝ }
+    ensures cols { λ _. ⌜ now («col_weights» .exit) ≡ afterBuild order lift (now (voltages .entry)) (held (now (plan .entry)) (now («row_weights» .entry)) (now («col_weights» .entry))) .cols ⌝ }
 {
     let room = Room {
         plan: plan.len(),

@@ -11,10 +11,11 @@ use Rattle.refusal.specs.declared.Refusal.{Refusal}
 use Rattle.refusal.specs.declared.Refusal.the-variants.{Lift, Order, TableLength, NegativeEntry, Unsound, MaskByte, MaskWeight, TableBits, PlanPlace}
 use Rattle.refusal.specs.Lowest.{Rule, refuse, lowest}
 use Rattle.refusal.specs.Place.{firstPlace, somewhere}
+use Rattle.refusal.specs.Lent.{lent}
 use Rattle.exponent.specs.Limits.{outside}
-use Rattle.weights.specs.declared.Side.{Side}
+use Rattle.exponent.specs.declared.Shape.{Shape}
 use Rattle.weights.specs.declared.Room.{Room}
-use Rattle.weights.specs.Weights.{shapeOf, weightsOf, roomOf, lengthRules}
+use Rattle.weights.specs.Weights.{shapeOf, Held, withWeights, roomOf, lengthRules}
 use Rattle.square.specs.declared.search.Quad.{Quad}
 use Rattle.square.specs.Table.{tableAt, negative, unsound, firstRepeat}
 use Rattle.square.specs.Mask.{maskAt, common, weight}
@@ -61,21 +62,24 @@ maskRules order lift mask room =
 unfoldable pub buildRules : ℕ → ℕ → List ℤ → List ℕ → Room → List Rule
 buildRules order lift table mask room = tableRules order lift table ++ maskRules order lift mask room
 
--- why a call with these three lent lists is refused, if it is
-abbrev pub buildRefusal : ℕ → ℕ → List ℤ → List ℕ → List ℤ → List ℕ → List ℕ → Option Refusal
-buildRefusal order lift table mask plan rows cols = lowest (buildRules order lift table mask (roomOf plan rows cols))
-
--- the plan that is then built, the weights of its rows and of its columns, and the answer
-unfoldable pub builtPlan : ℕ → ℕ → List ℤ → List ℕ → List ℤ
-builtPlan order lift table mask = tablePlan order (weight order mask) lift (tableAt order table) (maskAt order mask)
-
-unfoldable pub builtWeights : ℕ → ℕ → List ℤ → List ℕ → Side → List ℕ
-builtWeights order lift table mask side =
-    weightsOf (builtPlan order lift table mask) (shapeOf (planRows order (weight order mask)) (planCols order (weight order mask)) lift) side
-
+-- the judge's answer, with the weight of the mask
 abbrev pub verdict : Option Refusal → ℕ → Verdict
 verdict none L = Accepted L
 verdict (some r) L = Refused r
+
+-- the plan that is built where nothing is refused, and its sizes
+unfoldable pub builtPlan : ℕ → ℕ → List ℤ → List ℕ → List ℤ
+builtPlan order lift table mask = tablePlan order (weight order mask) lift (tableAt order table) (maskAt order mask)
+
+abbrev pub builtShape : ℕ → ℕ → List ℕ → Shape
+builtShape order lift mask = shapeOf (planRows order (weight order mask)) (planCols order (weight order mask)) lift
+
+-- THE CALL, of what the three lent lists hold: why it is refused, if it is; the plan with its weights, or all as it was; the answer
+abbrev pub buildRefusal : ℕ → ℕ → List ℤ → List ℕ → Held → Option Refusal
+buildRefusal order lift table mask h = lowest (buildRules order lift table mask (roomOf h))
+
+abbrev pub afterBuild : ℕ → ℕ → List ℤ → List ℕ → Held → Held
+afterBuild order lift table mask h = lent (buildRefusal order lift table mask h) (withWeights (builtPlan order lift table mask) (builtShape order lift mask)) h
 
 abbrev pub built : Option Refusal → ℕ → ℕ → BuiltAnswer
 built none order L = Built (planRows order L) (planCols order L)

@@ -3,11 +3,11 @@ ghost use mathlib.Core.Path.{_≡_};
 ghost use lib.ListN.{length};
 ghost use Rattle.refusal.specs.Lowest.{lowest};
 ghost use Rattle.refusal.specs.Lent.{lent};
-ghost use Rattle.weights.specs.declared.Side.the-variants.{Bits, Checks};
+ghost use Rattle.weights.specs.Weights.{held};
 ghost use Rattle.square.specs.declared.supply.Family.the-variants.{Array, Cyclic};
 ghost use Rattle.square.specs.Table.{suppliedTable};
 ghost use Rattle.square.specs.Mask.{weight};
-ghost use Rattle.table.specs.Build.{supplyRules, supplied, buildRefusal, builtPlan, builtWeights, built};
+ghost use Rattle.table.specs.Build.{supplyRules, supplied, buildRefusal, afterBuild, built};
 
 mod write; // write.rt: the plan, written row by row
 mod judge; // judge.rt: refusals 3, 7 to 13, 15 and 25 in their order
@@ -58,14 +58,10 @@ pub fn build(
     row_weights: &mut [u16],
     col_weights: &mut [u16],
 ) -> Built
-    ensures answer { λ r. ⌜ r ≡ built (buildRefusal order lift (now (table .entry)) (now (mask .entry)) (now (plan .entry)) (now («row_weights» .entry)) (now («col_weights» .entry)))
-        order (weight order (now (mask .entry))) ⌝ }
-    ensures place { λ _. ⌜ now (plan .exit) ≡ lent (buildRefusal order lift (now (table .entry)) (now (mask .entry)) (now (plan .entry)) (now («row_weights» .entry)) (now («col_weights» .entry)))
-        (builtPlan order lift (now (table .entry)) (now (mask .entry))) (now (plan .entry)) ⌝ }
-    ensures rows { λ _. ⌜ now («row_weights» .exit) ≡ lent (buildRefusal order lift (now (table .entry)) (now (mask .entry)) (now (plan .entry)) (now («row_weights» .entry)) (now («col_weights» .entry)))
-        (builtWeights order lift (now (table .entry)) (now (mask .entry)) Checks) (now («row_weights» .entry)) ⌝ }
-    ensures cols { λ _. ⌜ now («col_weights» .exit) ≡ lent (buildRefusal order lift (now (table .entry)) (now (mask .entry)) (now (plan .entry)) (now («row_weights» .entry)) (now («col_weights» .entry)))
-        (builtWeights order lift (now (table .entry)) (now (mask .entry)) Bits) (now («col_weights» .entry)) ⌝ }
+    ensures answer { λ r. ⌜ r ≡ built (buildRefusal order lift (now (table .entry)) (now (mask .entry)) (held (now (plan .entry)) (now («row_weights» .entry)) (now («col_weights» .entry)))) order (weight order (now (mask .entry))) ⌝ }
+    ensures place { λ _. ⌜ now (plan .exit) ≡ afterBuild order lift (now (table .entry)) (now (mask .entry)) (held (now (plan .entry)) (now («row_weights» .entry)) (now («col_weights» .entry))) .plan ⌝ }
+    ensures rows { λ _. ⌜ now («row_weights» .exit) ≡ afterBuild order lift (now (table .entry)) (now (mask .entry)) (held (now (plan .entry)) (now («row_weights» .entry)) (now («col_weights» .entry))) .rows ⌝ }
+    ensures cols { λ _. ⌜ now («col_weights» .exit) ≡ afterBuild order lift (now (table .entry)) (now (mask .entry)) (held (now (plan .entry)) (now («row_weights» .entry)) (now («col_weights» .entry))) .cols ⌝ }
 {
     let room = Room {
         plan: plan.len(),

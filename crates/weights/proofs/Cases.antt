@@ -11,8 +11,8 @@ use Rattle.refusal.specs.Place.{firstPlace}
 use Rattle.graph.specs.Count.{range, count}
 use Rattle.exponent.specs.Plan.{entryAt, blockAt}
 use Rattle.exponent.specs.Tanner.{columnWeight, rowWeight}
-use Rattle.weights.specs.Weights.{weightsOf, same, right}
-use Rattle.weights.specs.Change.{changeRules, stored, Held, held, call, refusalOf, after}
+use Rattle.weights.specs.Weights.{weightsOf, Held, held, same, right}
+use Rattle.weights.specs.Change.{changeRules, stored, call, refusalOf, after}
 
 -- the plan, and its weights
 abbrev corner : List ℤ

@@ -15,8 +15,8 @@ use Rattle.exponent.specs.declared.Shape.{Shape}
 use Rattle.exponent.specs.Plan.{blockOf, invalidEntry, entryAt, blockAt, filled}
 use Rattle.weights.specs.declared.Side.{Side}
 use Rattle.weights.specs.declared.Side.the-variants.{Bits, Checks}
-use Rattle.weights.specs.Weights.{blocks, filledOn, weightOf, weightsOf, Weighed}
-use Rattle.weights.specs.Change.{Accepted, Held, Call, held, refusalOf, newPlan, after}
+use Rattle.weights.specs.Weights.{blocks, filledOn, weightOf, weightsOf, Held, withWeights, Weighed}
+use Rattle.weights.specs.Change.{Accepted, Call, refusalOf, newPlan, after}
 use Rattle.weights.specs.Changes.{afterAll, Counted, OnlyThere}
 use Rattle.weights.proofs.Weights.{weight-count, length-weights, weights-at, weights-by, right-exactly}
 use Rattle.weights.proofs.Stored.{laneOf, stored-length, stored-other, stored-well, weights-stored}
@@ -64,7 +64,7 @@ weights-same plan s t p q side =
 
 -- ONE CALL: what it leaves where it is taken, and where it is refused
 module _ (c : Call) (h : Held) where
-  pub taken : refusalOf c h ≡ none → after c h ≡ held (newPlan c h) (weightsOf (newPlan c h) (c .shape) Checks) (weightsOf (newPlan c h) (c .shape) Bits)
+  pub taken : refusalOf c h ≡ none → after c h ≡ withWeights (newPlan c h) (c .shape)
   unfolding after
   taken e = rw e
 
@@ -76,7 +76,7 @@ module _ (c : Call) (h : Held) where
   unfolding refusalOf
   was-accepted e = accepted (h .plan) (c .shape) (c .at) (c .entry) (h .rows) (h .cols) .0 e
 
-  by-refusal : (P : Held → Type 0) → (refusalOf c h ≡ none → P (held (newPlan c h) (weightsOf (newPlan c h) (c .shape) Checks) (weightsOf (newPlan c h) (c .shape) Bits))) → P h → P (after c h)
+  by-refusal : (P : Held → Type 0) → (refusalOf c h ≡ none → P (withWeights (newPlan c h) (c .shape))) → P h → P (after c h)
   by-refusal P f g = step (refusalOf c h) refl
     where
       step : (o : Option Refusal) → refusalOf c h ≡ o → P (after c h)

@@ -17,8 +17,7 @@ use Rattle.exponent.specs.Limits.{sizeRules, entryRules, WellFormed}
 use Rattle.weights.specs.declared.change.At.{At}
 use Rattle.weights.specs.declared.change.Changed.{Changed as ChangedAnswer}
 use Rattle.weights.specs.declared.change.Changed.the-variants.{Changed, Refused}
-use Rattle.weights.specs.declared.Side.the-variants.{Bits, Checks}
-use Rattle.weights.specs.Weights.{shapeOf, weightsOf, Weighed, weightRules}
+use Rattle.weights.specs.Weights.{shapeOf, Held, withWeights, Weighed, weightRules}
 
 -- 24: the block lies outside the plan
 abbrev pub blockRules : Shape → At → List Rule
@@ -48,19 +47,11 @@ pub record Accepted (plan : List ℤ) (s : Shape) (at : At) (entry : ℤ) (rows 
   pub valid : invalidEntry (s .lift) entry ≡ false
   pub weighed : Weighed plan s rows cols
 
--- a plan with its two lists, and a call with its numbers
-pub record Held : Type 0 where
-  pub plan : List ℤ
-  pub rows : List ℕ
-  pub cols : List ℕ
-
+-- a call with its numbers
 pub record Call : Type 0 where
   pub shape : Shape
   pub at : At
   pub entry : ℤ
-
-abbrev pub held : List ℤ → List ℕ → List ℕ → Held
-held plan rows cols = record { plan = plan; rows = rows; cols = cols }
 
 abbrev pub call : ℕ → ℕ → ℕ → ℕ → ℕ → ℤ → Call
 call rows cols lift row col entry =
@@ -73,12 +64,6 @@ refusalOf c h = lowest (changeRules (h .plan) (c .shape) (c .at) (c .entry) (h .
 abbrev pub newPlan : Call → Held → List ℤ
 newPlan c h = stored (h .plan) (c .shape) (c .at) (c .entry)
 
--- the plan with the new entry and the counts of its filled blocks, or all as it was
+-- the plan with the new entry, with its weights; or all as it was
 unfoldable pub after : Call → Held → Held
-after c h =
-    let refusal = refusalOf c h in
-    record {
-      plan = lent refusal (newPlan c h) (h .plan);
-      rows = lent refusal (weightsOf (newPlan c h) (c .shape) Checks) (h .rows);
-      cols = lent refusal (weightsOf (newPlan c h) (c .shape) Bits) (h .cols);
-    }
+after c h = lent (refusalOf c h) (withWeights (newPlan c h) (c .shape)) h

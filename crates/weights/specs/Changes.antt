@@ -7,8 +7,8 @@ use lib.IntN.{pos}
 use lib.ListN.{length, getD}
 use Rattle.exponent.specs.declared.Shape.{Shape}
 use Rattle.exponent.specs.Limits.{WellFormed}
-use Rattle.weights.specs.Weights.{Weighed}
-use Rattle.weights.specs.Change.{Held, Call, after}
+use Rattle.weights.specs.Weights.{Held, Weighed}
+use Rattle.weights.specs.Change.{Call, after}
 
 -- what they leave
 unfoldable pub afterAll : List Call → Held → Held

@@ -52,6 +52,19 @@ listOf Checks rows cols = rows
 unfoldable pub weightsOf : List ℤ → Shape → Side → List ℕ
 weightsOf plan s side = map (weightOf plan s side) (below (lanes s side))
 
+-- what three lent lists hold: a plan and, beside it, row weights and column weights, right or wrong
+pub record Held : Type 0 where
+  pub plan : List ℤ
+  pub rows : List ℕ
+  pub cols : List ℕ
+
+abbrev pub held : List ℤ → List ℕ → List ℕ → Held
+held plan rows cols = record { plan = plan; rows = rows; cols = cols }
+
+-- a plan with its own weights
+abbrev pub withWeights : List ℤ → Shape → Held
+withWeights plan s = held plan (weightsOf plan s Checks) (weightsOf plan s Bits)
+
 -- two lists are equal
 unfoldable pub same : List ℕ → List ℕ → Bool
 same [] [] = true
@@ -73,8 +86,8 @@ abbrev pub weightRules : List ℤ → Shape → List ℕ → List ℕ → List R
 weightRules plan s rows cols = refuse Weights (not (right plan s rows cols)) ∷ []
 
 -- how long the lists are that a builder is lent; for it, 25 is about the length alone
-abbrev pub roomOf : List ℤ → List ℕ → List ℕ → Room
-roomOf plan rows cols = record { plan = length plan; rows = length rows; cols = length cols }
+abbrev pub roomOf : Held → Room
+roomOf h = record { plan = length (h .plan); rows = length (h .rows); cols = length (h .cols) }
 
 abbrev pub lengthRules : Room → ℕ → ℕ → List Rule
 lengthRules room rows cols = refuse Weights (not (eqb (room .rows) rows && eqb (room .cols) cols)) ∷ []

@@ -10,8 +10,8 @@ ghost use lib.ListN.{length, set};
 ghost use Rattle.exponent.specs.Plan.{invalidEntry};
 ghost use Rattle.exponent.specs.Limits.{WellFormed, validity};
 ghost use Rattle.weights.specs.declared.Side.the-variants.{Bits, Checks};
-ghost use Rattle.weights.specs.Weights.{lanes, weightOf, weightsOf};
-ghost use Rattle.weights.specs.Change.{ownRules, changeRules, changed, stored, Accepted, call, held, refusalOf, after};
+ghost use Rattle.weights.specs.Weights.{lanes, weightOf, weightsOf, held};
+ghost use Rattle.weights.specs.Change.{ownRules, changeRules, changed, stored, Accepted, call, refusalOf, after};
 
 // A block's row and column.
 pub struct At {

@@ -10,25 +10,36 @@ use Rattle.refusal.specs.Lent.{lent}
 use Rattle.exponent.proofs.Rules.{valid-none, refused-some}
 use Rattle.weights.specs.declared.Side.{Side}
 use Rattle.weights.specs.declared.Side.the-variants.{Bits, Checks}
-use Rattle.weights.specs.Weights.{shapeOf, weightsOf, roomOf}
+use Rattle.weights.specs.Weights.{shapeOf, weightsOf, Held, held, withWeights, roomOf}
 use Rattle.table.specs.declared.Built.the-variants.{Built}
-use Rattle.steiner.specs.Build.{buildRefusal, steinerPlan, steinerWeights, built}
+use Rattle.steiner.specs.System.{cols}
+use Rattle.steiner.specs.Build.{buildRefusal, steinerPlan, afterBuild, built}
 use Rattle.steiner.proofs.Accepted.{Taken, taken}
 use Rattle.steiner.proofs.Plans.{built-plan}
 use Rattle.steiner.proofs.build.Statement.{statement}
 use Rattle.steiner.proofs.build.Tie as tie
 
 module _ (s : tie.Start) where
-  abbrev refusal : Option Refusal
-  refusal = buildRefusal (s .args .order) (s .args .lift) (s .args .voltages .now) (s .args .plan .now) (s .args .row-weights .now) (s .args .col-weights .now)
+  -- what the three lists hold at the start, and at the end
+  abbrev lists : Held
+  lists = held (s .args .plan .now) (s .args .row-weights .now) (s .args .col-weights .now)
 
-  -- an answer and what a lent list then holds, from what the rules give
+  abbrev left : Held
+  left = afterBuild (s .args .order) (s .args .lift) (s .args .voltages .now) lists
+
+  abbrev refusal : Option Refusal
+  refusal = buildRefusal (s .args .order) (s .args .lift) (s .args .voltages .now) lists
+
+  abbrev new : Held
+  new = withWeights (steinerPlan (s .args .order) (s .args .lift) (s .args .voltages .now)) (shapeOf (s .args .order) (cols (s .args .order)) (s .args .lift))
+
+  -- the answer, and what the lists then hold, from what the rules give
   module _ (o : Option Refusal) (e : refusal ≡ o) where
     answers : built o (s .args .order) ≡ built refusal (s .args .order)
     answers = sym (ap (λ (x : Option Refusal). built x (s .args .order)) e)
 
-    leaves : {A : Type 0} (new old : List A) → lent o new old ≡ lent refusal new old
-    leaves new old = sym (ap (λ (x : Option Refusal). lent x new old) e)
+    leaves : {A : Type 0} (of : Held → List A) → of (lent o new lists) ≡ of left
+    leaves of = sym (ap (λ (x : Option Refusal). of (lent x new lists)) e)
 
 -- the start, from behind the judge; and what lies before, from behind each filling
 abbrev start : tie.After-judge → tie.Start
@@ -44,21 +55,17 @@ written c = c .before .before .before .before .before
 passed : (c : tie.After-enum-told) → refusal (start (c .before .before)) ≡ none
 passed c = valid-none _ (sym (c .before .before .judge .ensures) ∙ c .enum-told .given .1)
 
-all-taken : (c : tie.After-enum-told) → let a = start (c .before .before) .args in
-    Taken (a .order) (a .lift) (a .voltages .now) (roomOf (a .plan .now) (a .row-weights .now) (a .col-weights .now))
+all-taken : (c : tie.After-enum-told) → let s = start (c .before .before) in Taken (s .args .order) (s .args .lift) (s .args .voltages .now) (roomOf (lists s))
 all-taken c = taken _ _ _ _ (passed c)
 
--- the weights of the plan that was written are what a list is to hold then
-weights : (c : tie.After-fill) (side : Side) (old : List ℕ) → let s = start (judged c .before .before) in let a = s .args in
-    weightsOf (c .fill .last .1 .1 .1 .0) (shapeOf (a .order) (c .before .before .cols .result) (a .lift)) side ≡ lent (refusal s) (steinerWeights (a .order) (a .lift) (a .voltages .now) side) old
-unfolding steinerWeights
-weights c side old =
+-- the weights of the plan that was written are those of the plan that is to be built
+weights : (c : tie.After-fill) (side : Side) → let s = start (judged c .before .before) in let a = s .args in
+    weightsOf (c .fill .last .1 .1 .1 .0) (shapeOf (a .order) (c .before .before .cols .result) (a .lift)) side ≡ weightsOf (new s .plan) (shapeOf (a .order) (cols (a .order)) (a .lift)) side
+weights c side =
     let s = start (judged c .before .before) in
     let a = s .args in
-    let plan = steinerPlan (a .order) (a .lift) (a .voltages .now) in
     ap (λ (l : List ℤ). weightsOf l (shapeOf (a .order) (c .before .before .cols .result) (a .lift)) side) (c .fill .ensures)
-    ∙ ap (λ (n : ℕ). weightsOf plan (shapeOf (a .order) n (a .lift)) side) (c .before .before .cols .ensures)
-    ∙ leaves s none (passed (judged c)) (steinerWeights (a .order) (a .lift) (a .voltages .now) side) old
+    ∙ ap (λ (n : ℕ). weightsOf (new s .plan) (shapeOf (a .order) n (a .lift)) side) (c .before .before .cols .ensures)
 
 judge-requires : tie.Need-judge-requires
 judge-requires c κs = search needs
@@ -98,8 +105,8 @@ returns c =
     let e = passed (judged f) in (
       ap (Built (s .args .order)) (f .before .before .cols .ensures) ∙ answers s none e,
       (
-        f .fill .ensures ∙ leaves s none e _ _,
-        (g .fill2 .ensures .0 ∙ weights f Checks (s .args .row-weights .now), g .fill2 .ensures .1 ∙ weights f Bits (s .args .col-weights .now)),
+        f .fill .ensures ∙ leaves s none e (λ h. h .plan),
+        (g .fill2 .ensures .0 ∙ weights f Checks ∙ leaves s none e (λ h. h .rows), g .fill2 .ensures .1 ∙ weights f Bits ∙ leaves s none e (λ h. h .cols)),
       ),
     )
 
@@ -108,7 +115,7 @@ returns-2 c =
     let r = c .before in
     let j = r .before .before in
     let e : refusal (start j) ≡ some (r .r .given .0 .0) = refused-some _ _ (sym (j .judge .ensures) ∙ r .r .given .1) in
-    (answers (start j) _ e, (leaves (start j) _ e _ _, (leaves (start j) _ e _ _, leaves (start j) _ e _ _)))
+    (answers (start j) _ e, (leaves (start j) _ e (λ h. h .plan), (leaves (start j) _ e (λ h. h .rows), leaves (start j) _ e (λ h. h .cols))))
 
 pub build-spec : {M : Type 1} → statement M
 build-spec =

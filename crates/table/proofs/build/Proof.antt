@@ -12,25 +12,32 @@ use Rattle.exponent.specs.declared.Shape.{Shape}
 use Rattle.weights.specs.declared.Side.{Side}
 use Rattle.weights.specs.declared.Side.the-variants.{Bits, Checks}
 use Rattle.weights.specs.declared.Room.{Room}
-use Rattle.weights.specs.Weights.{shapeOf, weightsOf, roomOf}
+use Rattle.weights.specs.Weights.{shapeOf, weightsOf, Held, held, withWeights, roomOf}
 use Rattle.square.specs.Table.{tableAt}
 use Rattle.square.specs.Mask.{maskAt, weight}
 use Rattle.square.proofs.Places.{square}
 use Rattle.grid.specs.Plan.{planRows, planCols, tablePlan}
 use Rattle.grid.proofs.Columns.{cols-small}
 use Rattle.table.specs.declared.Built.the-variants.{Built}
-use Rattle.table.specs.Build.{buildRefusal, builtPlan, builtWeights, built}
+use Rattle.table.specs.Build.{buildRefusal, builtPlan, builtShape, afterBuild, built}
 use Rattle.table.proofs.Accepted.{Taken, taken, ready, place-fits, accepts, refuses}
 use Rattle.table.proofs.Plans.{built-is-good}
 use Rattle.table.proofs.build.Statement.{statement}
 use Rattle.table.proofs.build.Tie as tie
 
 module _ (s : tie.Start) where
+  -- what the three lists hold at the start, and at the end
+  abbrev lists : Held
+  lists = held (s .args .plan .now) (s .args .row-weights .now) (s .args .col-weights .now)
+
+  abbrev left : Held
+  left = afterBuild (s .args .order) (s .args .lift) (s .args .table .now) (s .args .mask .now) lists
+
   abbrev room : Room
-  room = roomOf (s .args .plan .now) (s .args .row-weights .now) (s .args .col-weights .now)
+  room = roomOf lists
 
   abbrev refusal : Option Refusal
-  refusal = buildRefusal (s .args .order) (s .args .lift) (s .args .table .now) (s .args .mask .now) (s .args .plan .now) (s .args .row-weights .now) (s .args .col-weights .now)
+  refusal = buildRefusal (s .args .order) (s .args .lift) (s .args .table .now) (s .args .mask .now) lists
 
   abbrev W : ℕ
   W = weight (s .args .order) (s .args .mask .now)
@@ -42,13 +49,16 @@ module _ (s : tie.Start) where
   abbrev shape : ℕ → Shape
   shape L = shapeOf (planRows (s .args .order) L) (planCols (s .args .order) L) (s .args .lift)
 
-  -- an answer and what a lent list then holds, from what the rules give
+  abbrev new : Held
+  new = withWeights (builtPlan (s .args .order) (s .args .lift) (s .args .table .now) (s .args .mask .now)) (builtShape (s .args .order) (s .args .lift) (s .args .mask .now))
+
+  -- the answer, and what the lists then hold, from what the rules give
   module _ (o : Option Refusal) (e : refusal ≡ o) where
     answers : built o (s .args .order) W ≡ built refusal (s .args .order) W
     answers = sym (ap (λ (x : Option Refusal). built x (s .args .order) W) e)
 
-    leaves : {A : Type 0} (new old : List A) → lent o new old ≡ lent refusal new old
-    leaves new old = sym (ap (λ (x : Option Refusal). lent x new old) e)
+    leaves : {A : Type 0} (of : Held → List A) → of (lent o new lists) ≡ of left
+    leaves of = sym (ap (λ (x : Option Refusal). of (lent x new lists)) e)
 
 -- the start, from behind the judge; and what lies before, from behind each filling
 abbrev start : tie.After-judge → tie.Start
@@ -73,17 +83,15 @@ small c =
     let h = t .of-table .most-order in
     (omega arith, omega (arith, passed c .1, t .of-mask .most))
 
--- the weights of the plan that was written are what a list is to hold then
-weights : (c : tie.After-fill) (side : Side) (old : List ℕ) → let w = judged c in let s = start (w .before .before) in
-    weightsOf (c .fill .last .1 .1 .1 .0) (shape s (w .weight .given .0 .0)) side ≡ lent (refusal s) (builtWeights (s .args .order) (s .args .lift) (s .args .table .now) (s .args .mask .now) side) old
-unfolding builtPlan builtWeights
-weights c side old =
+-- the weights of the plan that was written are those of the plan that is to be built
+weights : (c : tie.After-fill) (side : Side) → let w = judged c in let s = start (w .before .before) in
+    weightsOf (c .fill .last .1 .1 .1 .0) (shape s (w .weight .given .0 .0)) side ≡ weightsOf (new s .plan) (shape s (W s)) side
+unfolding builtPlan
+weights c side =
     let w = judged c in
     let s = start (w .before .before) in
-    let (e, same) = passed w in
     ap (λ (l : List ℤ). weightsOf l (shape s (w .weight .given .0 .0)) side) (c .fill .ensures)
-    ∙ ap (λ (L : ℕ). weightsOf (plan s L) (shape s L) side) same
-    ∙ leaves s none e (builtWeights (s .args .order) (s .args .lift) (s .args .table .now) (s .args .mask .now) side) old
+    ∙ ap (λ (L : ℕ). weightsOf (plan s L) (shape s L) side) (passed w .1)
 
 judge-requires : tie.Need-judge-requires
 judge-requires c κs = search needs
@@ -143,8 +151,8 @@ returns c =
     let (e, same) = passed w in (
       ap (λ (L : ℕ). Built (planRows (s .args .order) L) (planCols (s .args .order) L)) same ∙ answers s none e,
       (
-        f .fill .ensures ∙ ap (plan s) same ∙ leaves s none e _ _,
-        (g .fill2 .ensures .0 ∙ weights f Checks (s .args .row-weights .now), g .fill2 .ensures .1 ∙ weights f Bits (s .args .col-weights .now)),
+        f .fill .ensures ∙ ap (plan s) same ∙ leaves s none e (λ h. h .plan),
+        (g .fill2 .ensures .0 ∙ weights f Checks ∙ leaves s none e (λ h. h .rows), g .fill2 .ensures .1 ∙ weights f Bits ∙ leaves s none e (λ h. h .cols)),
       ),
     )
 
@@ -153,7 +161,7 @@ returns-2 c =
     let r = c .before in
     let j = r .before .before in
     let e : refusal (start j) ≡ some (r .r .given .0 .0) = refuses _ _ _ (sym (r .r .given .1) ∙ j .judge .ensures) in
-    (answers (start j) _ e, (leaves (start j) _ e _ _, (leaves (start j) _ e _ _, leaves (start j) _ e _ _)))
+    (answers (start j) _ e, (leaves (start j) _ e (λ h. h .plan), (leaves (start j) _ e (λ h. h .rows), leaves (start j) _ e (λ h. h .cols))))
 
 pub build-spec : {M : Type 1} → statement M
 build-spec =

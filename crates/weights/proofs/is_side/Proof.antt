@@ -18,8 +18,11 @@ Inv-loop plan s side list lane₀ lane = (lane ≤ length list) × ((i : ℕ) �
 abbrev μ-loop : tie.MeasureT-loop
 μ-loop plan s side list lane₀ lane = length list - lane
 
--- past the first test the list is as long as the side has lanes
-sized : (c : tie.Else1 Inv-loop μ-loop) → let t = c .before .before .before in length (t .args .list .now) ≡ lanes (t .args .s) (t .args .side)
+-- the start, from behind the first test, past which the list is as long as the side has lanes
+abbrev start : tie.Else1 Inv-loop μ-loop → tie.Start Inv-loop μ-loop
+start c = c .before .before .before
+
+sized : (c : tie.Else1 Inv-loop μ-loop) → let t = start c in length (t .args .list .now) ≡ lanes (t .args .s) (t .args .side)
 sized c = omega (arith, c .before .lanes .ensures, c .if1 .left)
 
 lanes-requires : tie.Need-lanes-requires Inv-loop μ-loop
@@ -34,7 +37,7 @@ loop-holds : tie.Need-loop-holds Inv-loop μ-loop
 loop-holds c = (omega arith, below-none _)
 
 weight-requires : tie.Need-weight-requires Inv-loop μ-loop
-weight-requires c κs = (c .before .before .before .before .before .pre, omega (arith, sized (c .before .before)))
+weight-requires c κs = let e = c .before .before in (start e .pre, omega (arith, sized e))
 
 at-requires : tie.Need-at-requires Inv-loop μ-loop
 at-requires c κs = search needs
@@ -43,7 +46,7 @@ returns-2 : tie.Need-returns-2 Inv-loop μ-loop
 returns-2 c =
     let w = c .before .before in
     let l = w .before .before in
-    let a = l .before .before .before .before .args in
+    let a = start (l .before) .args in
     sym (not-same _ _ (λ e. c .if2 .taken (
     c .before .at .ensures ∙ ap (λ (list : List ℕ). getD list (l .loop .lane) 0) e ∙ weights-at (a .plan .now) (a .s) (a .side) (l .loop .lane) (omega (arith, sized (l .before))) ∙ sym (w .weight .ensures))))
 
@@ -61,7 +64,7 @@ loop-again c =
 returns-3 : tie.Need-returns-3 Inv-loop μ-loop
 returns-3 c =
     let l = c .before in
-    let a = l .before .before .before .before .args in
+    let a = start (l .before) .args in
     let n = sized (l .before) in
     sym (same-exactly _ _ .1 (weights-by (a .plan .now) (a .s) (a .side) (a .list .now) n (λ i h. l .loop .inv .1 i (omega (arith, n)))))
 

@@ -85,8 +85,8 @@ returns c =
         ap (λ (p : List ℤ). p ++ drop (l .least .result) (a .plan .now)) (e .1 .0)
             ∙ lent-plan (a .q) (a .plan .now) zeros (s .side .result) (l .least .result) refl (s .side .ensures) (l .least .ensures) (a .byrow .now) (a .bycol .now) (own-lists s),
         (
-          e .1 .1 .0 ∙ lent-weights (a .q) (a .plan .now) zeros (s .side .result) (l .least .result) refl (s .side .ensures) (l .least .ensures) (a .byrow .now) (a .bycol .now) (own-lists s) Checks (a .byrow .now),
-          e .1 .1 .1 ∙ lent-weights (a .q) (a .plan .now) zeros (s .side .result) (l .least .result) refl (s .side .ensures) (l .least .ensures) (a .byrow .now) (a .bycol .now) (own-lists s) Bits (a .bycol .now),
+          e .1 .1 .0 ∙ lent-weights (a .q) (a .plan .now) zeros (s .side .result) (l .least .result) refl (s .side .ensures) (l .least .ensures) (a .byrow .now) (a .bycol .now) (own-lists s) Checks (λ h. h .rows) refl,
+          e .1 .1 .1 ∙ lent-weights (a .q) (a .plan .now) zeros (s .side .result) (l .least .result) refl (s .side .ensures) (l .least .ensures) (a .byrow .now) (a .bycol .now) (own-lists s) Bits (λ h. h .cols) refl,
         ),
       ),
     )

@@ -9,9 +9,9 @@ use Rattle.refusal.specs.Lowest.{lowest}
 use Rattle.exponent.specs.declared.Validity.{Validity}
 use Rattle.exponent.specs.Limits.{validity}
 use Rattle.exponent.proofs.Rules as plan-rules
-use Rattle.weights.specs.Change.{changeRules, changed, stored, Held, Call, held, call, refusalOf}
+use Rattle.weights.specs.Change.{changeRules, changed, stored, Call, call, refusalOf}
 use Rattle.weights.specs.declared.Side.the-variants.{Bits, Checks}
-use Rattle.weights.specs.Weights.{weightsOf}
+use Rattle.weights.specs.Weights.{weightsOf, Held, held}
 use Rattle.weights.proofs.Rules.{accepted}
 use Rattle.weights.proofs.Changes.{taken, stays}
 use Rattle.weights.proofs.change.change.Statement.{statement}
