@@ -1,8 +1,8 @@
 -- Rows 1 to 6, 24 and 25 of `change`: its tests say what the rows say. One test of 6 goes over the plan's entries and then the new one.
 -- Assumes nothing.
-use Prim.Native.Nat.{ℕ, _*_}
+use Prim.Native.Nat.{ℕ, _*_, _≤_}
 use mathlib.Core.Path.{_≡_, refl, sym, ap, subst, _∙_}
-use mathlib.Core.Logic.{_⊎_, inl, inr}
+use mathlib.Core.Logic.{_↔_, _⊎_, inl, inr}
 use mathlib.Core.Bool.{true, false, not, _&&_}
 use mathlib.Core.List.{List, [], _∷_, _++_}
 use native.Mathlib.Omega.{arith}
@@ -26,23 +26,22 @@ use Rattle.weights.specs.Change.{blockRules, changeRules}
 use Rattle.weights.proofs.Rules.{first-found, found, at-end, nowhere}
 use Rattle.promises.specs.TurnedAway.{PlanRow, row-5, NewEntryRow, row-6-new, BlockRow, row-24, WeightRow, _or_}
 use Rattle.promises.proofs.Matching.{Listed, RowOrLower, Matches, in-more-rows, join, by-rule, no-rule, at-rule, one-rule}
-use Rattle.promises.proofs.PlanRows.{invalid-exactly, plan-matches}
+use Rattle.promises.proofs.PlanRows.{invalid-exactly, plan-matches, unless-both}
 use Rattle.promises.proofs.WeightRows.{weight-matches}
 
 -- 24
 module _ (s : Shape) (at : At) where
-  pub block-matches : Matches (blockRules s at) (BlockRow (s .rows) (s .cols) (at .row) (at .col))
-  block-matches = one-rule BlockPlace (not (ltb (at .row) (s .rows) && ltb (at .col) (s .cols))) (BlockRow (s .rows) (s .cols) (at .row) (at .col)) told row
-    where
-      told : not (ltb (at .row) (s .rows) && ltb (at .col) (s .cols)) ≡ true → BlockRow (s .rows) (s .cols) (at .row) (at .col) 24 []
-      told e =
-          by-bool (ltb (at .row) (s .rows))
-          (λ p. row-24 (inr (ltb-false (at .col) (s .cols) (not-true (ltb (at .col) (s .cols)) (rw p at e)))))
-          (λ p. row-24 (inl (ltb-false (at .row) (s .rows) p)))
+  not-below : (m n : ℕ) → (not (ltb m n) ≡ true) ↔ (n ≤ m)
+  not-below m n = (λ e. ltb-false m n (not-true (ltb m n) e), λ h. ap not (le-ltb m n h))
 
+  outside-exactly : (not (ltb (at .row) (s .rows) && ltb (at .col) (s .cols)) ≡ true) ↔ ((s .rows ≤ at .row) ⊎ (s .cols ≤ at .col))
+  outside-exactly = unless-both (ltb (at .row) (s .rows)) (ltb (at .col) (s .cols)) (not-below (at .row) (s .rows)) (not-below (at .col) (s .cols))
+
+  pub block-matches : Matches (blockRules s at) (BlockRow (s .rows) (s .cols) (at .row) (at .col))
+  block-matches = one-rule BlockPlace (not (ltb (at .row) (s .rows) && ltb (at .col) (s .cols))) (BlockRow (s .rows) (s .cols) (at .row) (at .col)) (λ e. row-24 (outside-exactly .0 e)) row
+    where
       row : (n : ℕ) (l : List ℕ) → BlockRow (s .rows) (s .cols) (at .row) (at .col) n l → Listed (blockRules s at) n l
-      row n l (row-24 (inl h)) = at-rule _ _ refl refl (rw (le-ltb (at .row) (s .rows) h))
-      row n l (row-24 (inr h)) = at-rule _ _ refl refl (by-bool (ltb (at .row) (s .rows)) (λ p. rw (p, le-ltb (at .col) (s .cols) h)) (λ p. rw p))
+      row n l (row-24 h) = at-rule _ _ refl refl (outside-exactly .1 h)
 
 -- 1 TO 6, of the plan's entries and then of the new one
 module _ (plan : List ℤ) (s : Shape) (entry : ℤ) where

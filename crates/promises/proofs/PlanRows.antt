@@ -1,8 +1,8 @@
 -- Rows 1 to 6 and 14, the plan designer's: the tests of `validate` and of the girth test say what the rows say. Assumes nothing.
 use Prim.Native.Nat.{ℕ, zero, suc, _*_}
-use mathlib.Core.Path.{_≡_, refl, ap}
-use mathlib.Core.Logic.{_↔_, inl, _≢_}
-use mathlib.Core.Bool.{true, false, not}
+use mathlib.Core.Path.{_≡_, refl, sym, ap, _∙_}
+use mathlib.Core.Logic.{_↔_, _⊎_, inl, inr, _≢_}
+use mathlib.Core.Bool.{Bool, true, false, not, _&&_, _||_}
 use mathlib.Core.List.{List, [], _∷_}
 use borrow.Author.Tests.{ltb-true, lt-ltb, eqb-false, ne-eqb, not-true}
 use lib.Dec.{ltb, eqb}
@@ -14,7 +14,7 @@ use Rattle.refusal.specs.Lowest.{refuse, In}
 use Rattle.refusal.specs.Place.{First, firstPlace, somewhere}
 use Rattle.refusal.proofs.Place.{first-exactly}
 use Rattle.graph.specs.Count.{member}
-use Rattle.graph.proofs.Decide.{both-ways, neither}
+use Rattle.graph.proofs.Decide.{both-ways, or-either, neither}
 use Rattle.exponent.specs.Plan.{invalidEntry}
 use Rattle.exponent.specs.Limits.{outside, planRules}
 use Rattle.exponent.proofs.Rules.{outside-exactly}
@@ -25,6 +25,28 @@ use Rattle.promises.proofs.Matching.{Listed, RowOf, Matches, join, by-r
 -- two numbers that the test finds different
 pub differs : (m n : ℕ) → (not (eqb m n) ≡ true) ↔ (m ≢ n)
 differs m n = (λ e q. eqb-false m n (not-true (eqb m n) e) q, λ h. ap not (ne-eqb m n h))
+
+-- either test holds, or not both do
+pub either-exactly : (a b : Bool) {A B : Type 0} → ((a ≡ true) ↔ A) → ((b ≡ true) ↔ B) → ((a || b) ≡ true) ↔ (A ⊎ B)
+either-exactly a b {A} {B} f g = (λ e. elim (or-either a b e) [ inl p ↦ inl (f .0 p) | inr q ↦ inr (g .0 q) ], to)
+  where
+    second : (a : Bool) → b ≡ true → (a || b) ≡ true
+    second true e = refl
+    second false e = e
+
+    to : A ⊎ B → (a || b) ≡ true
+    to (inl x) = rw (f .1 x)
+    to (inr y) = second a (g .1 y)
+
+pub unless-both : (a b : Bool) {A B : Type 0} → ((not a ≡ true) ↔ A) → ((not b ≡ true) ↔ B) → (not (a && b) ≡ true) ↔ (A ⊎ B)
+unless-both a b f g =
+    let (told, found) = either-exactly (not a) (not b) f g in
+    let same = turned a b in
+    (λ e. told (sym same ∙ e), λ h. same ∙ found h)
+  where
+    turned : (a b : Bool) → not (a && b) ≡ (not a || not b)
+    turned true b = refl
+    turned false b = refl
 
 -- an entry is found invalid exactly where it is below −1, whatever the lift
 pub invalid-exactly : (lift : ℕ) (z : ℤ) → (invalidEntry lift z ≡ true) ↔ BelowMinusOne z

@@ -3,7 +3,7 @@
 use Prim.Native.Nat.{ℕ, _*_, _<_}
 use mathlib.Core.Path.{_≡_, refl, ap}
 use mathlib.Core.Logic.{_↔_, _⊎_, inl, inr, _≢_}
-use mathlib.Core.Bool.{Bool, true, false, not, _||_, _&&_}
+use mathlib.Core.Bool.{Bool, true, not, _||_, _&&_}
 use mathlib.Core.List.{List, [], _∷_}
 use borrow.Author.Tests.{ltb-true, lt-ltb, not-true}
 use native.Mathlib.Omega.{arith}
@@ -17,7 +17,7 @@ use Rattle.refusal.specs.Lowest.{refuse, In}
 use Rattle.refusal.specs.Place.{First, firstPlace, somewhere}
 use Rattle.refusal.proofs.Place.{first-exactly}
 use Rattle.graph.specs.Count.{member}
-use Rattle.graph.proofs.Decide.{by-bool, both-ways, or-either, and-left, and-right, and-both}
+use Rattle.graph.proofs.Decide.{by-bool, both-ways, and-left, and-right, and-both}
 use Rattle.exponent.specs.Limits.{outside}
 use Rattle.exponent.proofs.Rules.{outside-exactly}
 use Rattle.weights.specs.declared.Room.{Room}
@@ -27,7 +27,7 @@ use Rattle.steiner.specs.Build.{buildRules}
 use Rattle.steiner.proofs.Orders.{by-order}
 use Rattle.promises.specs.TurnedAway.{LiftRow, row-3, IsNegative, IsOrder, seven, nine, thirteen, fifteen, nineteen, triples, SteinerRow, bits, voltage, row-22, row-23, steiner-lists, _or_}
 use Rattle.promises.proofs.Matching.{Listed, RowOrLower, Matches, by-rule, no-rule, at-rule, further}
-use Rattle.promises.proofs.PlanRows.{differs}
+use Rattle.promises.proofs.PlanRows.{differs, either-exactly}
 use Rattle.promises.proofs.TableRows.{negative-exactly, lists-exactly}
 
 -- the five orders
@@ -47,18 +47,6 @@ unknown-exactly order = (
   λ e k. both-ways (known k) (not-true (isOrder order) e),
   λ h. by-bool (isOrder order) (λ e. absurd (h (order-exactly order .0 e))) (λ e. ap not e),
 )
-
--- either test
-either-exactly : (a b : Bool) {A B : Type 0} → ((a ≡ true) ↔ A) → ((b ≡ true) ↔ B) → ((a || b) ≡ true) ↔ (A ⊎ B)
-either-exactly a b {A} {B} f g = (λ e. elim (or-either a b e) [ inl p ↦ inl (f .0 p) | inr q ↦ inr (g .0 q) ], to)
-  where
-    second : (a : Bool) → b ≡ true → (a || b) ≡ true
-    second true e = refl
-    second false e = e
-
-    to : A ⊎ B → (a || b) ≡ true
-    to (inl x) = rw (f .1 x)
-    to (inr y) = second a (g .1 y)
 
 module _ (order lift : ℕ) (voltages : List ℤ) (room : Room) where
   abbrev Rows : ℕ → List ℕ → Type 0

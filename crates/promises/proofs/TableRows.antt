@@ -6,7 +6,7 @@ use mathlib.Core.Logic.{_↔_, _⊎_, inl, inr, _≢_}
 use mathlib.Core.Bool.{true, not, _||_, _&&_}
 use mathlib.Core.List.{List, [], _∷_}
 use native.Mathlib.Omega.{arith}
-use borrow.Author.Tests.{ltb-true, lt-ltb, eqb-false, ne-eqb, not-true}
+use borrow.Author.Tests.{ltb-true, lt-ltb}
 use lib.Dec.{ltb, eqb}
 use lib.IntN.{ℤ, pos, negsuc}
 use lib.ListN.{length, getD, List·getD-eq-default}
@@ -30,7 +30,7 @@ use Rattle.table.specs.Build.{supplyRules, unsoundAt, tableRules, maskRules, bu
 use Rattle.promises.specs.TurnedAway.{LiftRow, row-3, SquareRow, row-7, row-8, IsNegative, TableRow, row-9, row-10, MaskRow, row-11, row-12, row-13, PlaceRow, row-15, table-lists, _or_}
 use Rattle.promises.specs.TurnedAway as away
 use Rattle.promises.proofs.Matching.{Listed, RowOf, RowOrLower, Matches, join, by-rule, no-rule, at-rule, further}
-use Rattle.promises.proofs.PlanRows.{differs}
+use Rattle.promises.proofs.PlanRows.{differs, unless-both}
 
 -- 7 AND 8
 module _ (order numbers : ℕ) where
@@ -106,16 +106,7 @@ module _ (order lift : ℕ) (table : List ℤ) where
 
 -- 25 of a builder: one of the two lists has another length
 pub lists-exactly : (room : Room) (rows cols : ℕ) → (not (eqb (room .rows) rows && eqb (room .cols) cols) ≡ true) ↔ ((room .rows ≢ rows) ⊎ (room .cols ≢ cols))
-lists-exactly room rows cols = (
-  λ e. by-bool (eqb (room .rows) rows)
-      (λ p. inr (eqb-false (room .cols) cols (not-true (eqb (room .cols) cols) (rw p at e))))
-      (λ p. inl (eqb-false (room .rows) rows p)),
-  found,
-)
-  where
-    found : (room .rows ≢ rows) ⊎ (room .cols ≢ cols) → not (eqb (room .rows) rows && eqb (room .cols) cols) ≡ true
-    found (inl h) = rw (ne-eqb (room .rows) rows h)
-    found (inr h) = by-bool (eqb (room .rows) rows) (λ p. rw (p, ne-eqb (room .cols) cols h)) (λ p. rw p)
+lists-exactly room rows cols = unless-both (eqb (room .rows) rows) (eqb (room .cols) cols) (differs (room .rows) rows) (differs (room .cols) cols)
 
 -- 11 TO 13, 15 AND 25
 module _ (order lift : ℕ) (mask : List ℕ) (room : Room) where

@@ -1,7 +1,7 @@
 -- Row 25 of the calls that are lent a plan's weights: the test of the two lists says what the row says. Assumes nothing.
 use Prim.Native.Nat.{ℕ, suc, _<_}
 use mathlib.Core.Path.{_≡_, refl, sym, ap, _∙_}
-use mathlib.Core.Logic.{_⊎_, inl, inr, _≢_}
+use mathlib.Core.Logic.{_↔_, _⊎_, inl, inr, _≢_}
 use mathlib.Core.Bool.{true, false, not}
 use mathlib.Core.List.{List, [], _∷_}
 use native.Mathlib.Omega.{arith}
@@ -18,6 +18,7 @@ use Rattle.weights.specs.Weights.{weightsOf, same, right, weightRules}
 use Rattle.weights.proofs.Weights.{not-same, length-weights, weights-at}
 use Rattle.promises.specs.TurnedAway.{WrongList, wrong-length, wrong-count, WeightRow, row-25}
 use Rattle.promises.proofs.Matching.{Listed, Matches, at-rule, one-rule}
+use Rattle.promises.proofs.PlanRows.{unless-both}
 
 -- two lists that differ, do so in length or at a place
 differ : (l m : List ℕ) → same l m ≡ false → (length l ≢ length m) ⊎ ((i : ℕ) × (i < length m) × (getD l i 0 ≢ getD m i 0))
@@ -48,34 +49,23 @@ module _ (list m : List ℕ) (n : ℕ) (weight : ℕ → ℕ) (size : length m �
   found-wrong (wrong-length h) = not-same list m (λ e. h (ap length e ∙ size))
   found-wrong (wrong-count i h k) = not-same list m (λ e. k (ap (λ (l : List ℕ). getD l i 0) e ∙ each i h))
 
+  -- so the test says what the words say
+  wrong-exactly : (not (same list m) ≡ true) ↔ WrongList list n weight
+  wrong-exactly = (λ e. wrong (not-true (same list m) e), λ h. ap not (found-wrong h))
+
 module _ (plan : List ℤ) (s : Shape) (byrow bycol : List ℕ) where
   abbrev Wrong : ℕ → List ℕ → Type 0
   Wrong = WeightRow plan (s .rows) (s .cols) (s .lift) byrow bycol
 
-  rows-wrong : same byrow (weightsOf plan s Checks) ≡ false → WrongList byrow (s .rows) (rowWeight plan (s .cols) (s .lift))
-  rows-wrong = wrong byrow (weightsOf plan s Checks) (s .rows) (rowWeight plan (s .cols) (s .lift)) (length-weights plan s Checks) (weights-at plan s Checks)
-
-  cols-wrong : same bycol (weightsOf plan s Bits) ≡ false → WrongList bycol (s .cols) (columnWeight plan (s .rows) (s .cols) (s .lift))
-  cols-wrong = wrong bycol (weightsOf plan s Bits) (s .cols) (columnWeight plan (s .rows) (s .cols) (s .lift)) (length-weights plan s Bits) (weights-at plan s Bits)
-
-  not-right : WrongList byrow (s .rows) (rowWeight plan (s .cols) (s .lift)) ⊎ WrongList bycol (s .cols) (columnWeight plan (s .rows) (s .cols) (s .lift)) → not (right plan s byrow bycol) ≡ true
+  lists-exactly : (not (right plan s byrow bycol) ≡ true) ↔ (WrongList byrow (s .rows) (rowWeight plan (s .cols) (s .lift)) ⊎ WrongList bycol (s .cols) (columnWeight plan (s .rows) (s .cols) (s .lift)))
   unfolding right
-  not-right (inl h) =
-      let e = found-wrong byrow (weightsOf plan s Checks) (s .rows) (rowWeight plan (s .cols) (s .lift)) (length-weights plan s Checks) (weights-at plan s Checks) h in
-      rw e
-  not-right (inr h) =
-      let e = found-wrong bycol (weightsOf plan s Bits) (s .cols) (columnWeight plan (s .rows) (s .cols) (s .lift)) (length-weights plan s Bits) (weights-at plan s Bits) h in
-      by-bool (same byrow (weightsOf plan s Checks)) (λ p. rw (p, e)) (λ p. rw p)
+  lists-exactly =
+      unless-both (same byrow (weightsOf plan s Checks)) (same bycol (weightsOf plan s Bits))
+      (wrong-exactly byrow (weightsOf plan s Checks) (s .rows) (rowWeight plan (s .cols) (s .lift)) (length-weights plan s Checks) (weights-at plan s Checks))
+      (wrong-exactly bycol (weightsOf plan s Bits) (s .cols) (columnWeight plan (s .rows) (s .cols) (s .lift)) (length-weights plan s Bits) (weights-at plan s Bits))
 
   pub weight-matches : Matches (weightRules plan s byrow bycol) (WeightRow plan (s .rows) (s .cols) (s .lift) byrow bycol)
-  unfolding right
-  weight-matches = one-rule Weights (not (right plan s byrow bycol)) Wrong told row
+  weight-matches = one-rule Weights (not (right plan s byrow bycol)) Wrong (λ e. row-25 (lists-exactly .0 e)) row
     where
-      told : not (right plan s byrow bycol) ≡ true → Wrong 25 []
-      told e =
-          by-bool (same byrow (weightsOf plan s Checks))
-          (λ p. row-25 (inr (cols-wrong (not-true (same bycol (weightsOf plan s Bits)) (rw p at e)))))
-          (λ p. row-25 (inl (rows-wrong p)))
-
       row : (n : ℕ) (l : List ℕ) → Wrong n l → Listed (weightRules plan s byrow bycol) n l
-      row n l (row-25 h) = at-rule _ _ refl refl (not-right h)
+      row n l (row-25 h) = at-rule _ _ refl refl (lists-exactly .1 h)
