@@ -1,4 +1,4 @@
-/* Quasi-cyclic LDPC plans: the thirteen functions of libqcldpc.a (`rt staticlib qcldpc`), for C99 on x86-64. A program is
+/* Quasi-cyclic LDPC plans: the fourteen functions of libqcldpc.a (`rt staticlib qcldpc`), for C99 on x86-64. A program is
  * linked with them by `-L target/staticlib -lqcldpc`.
  *
  * A plan is rows x cols numbers, row by row: -1 is a zero (empty) block, e from 0 to 32,767 the identity with its rows
@@ -15,8 +15,9 @@
  *     6, 9, 18, 19  the first place        10  i, k, r, t        17  the length needed        21  the place in the text
  * The other refusals have no values. Where only the new entry of qcldpc_change is below -1, the place of 6 is rows x cols, one
  * past the plan's last. 24 is a row or column outside the plan; 25, looked at last, a list of weights of the wrong length or,
- * unless the call builds the plan, with a wrong count. Places of `out` that are not named for an answer keep what was in them.
- * `out` needs QCLDPC_OUT places; with fewer, every function returns QCLDPC_NO_ROOM and changes nothing.
+ * unless the call builds the plan, with a wrong count; 26, looked at last, a work list with too few places. Places of `out`
+ * that are not named for an answer keep what was in them. `out` needs QCLDPC_OUT places; with fewer, every function returns
+ * QCLDPC_NO_ROOM and changes nothing.
  *
  * Nothing is asked of numbers and bytes. Each pointer points to as many elements as the length behind it says (none are
  * read or written where that is 0), and memory that a function writes overlaps no other memory lent in the same call.
@@ -47,6 +48,15 @@ uint64_t qcldpc_check(const int16_t *plan, size_t plan_len, uint64_t rows, uint6
  * the shortest is shown is free. All eight places of checks and of bits are written, those not used with 0. */
 uint64_t qcldpc_girth(const int16_t *plan, size_t plan_len, uint64_t rows, uint64_t cols, uint64_t lift,
                       uint64_t target, uint64_t *out, size_t out_len);
+
+/* The girth test by sorted pairs, for larger plans: whether no simple cycle has fewer edges than the target, and no more. It
+ * agrees with qcldpc_girth wherever it gives a verdict. Refusals 1 to 6, 14, 26. out[0] is 0 where the plan passes, else 1.
+ * The tree of a column j is all walks of 0 to target / 2 - 1 edges from bit j * lift that never step back, the root included.
+ * Where columns have c and rows r filled blocks, or fewer, it has at most 1 + c + c (r - 1) + c (r - 1)(c - 1) + ... nodes,
+ * target / 2 terms. 26, looked at last, where the tree of some column has more nodes than `work` has places, whatever the
+ * other trees show. After a verdict, what `work` holds is free; after a refusal it is as lent. */
+uint64_t qcldpc_girth_pairs(const int16_t *plan, size_t plan_len, uint64_t rows, uint64_t cols, uint64_t lift,
+                            uint64_t target, uint64_t *work, size_t work_len, uint64_t *out, size_t out_len);
 
 /* The syndrome check of a word without erasures. Refusals 1 to 6, 16, 18, 19.
  * out[0] is 0 where every check is even, else 1, and out[1] is the lowest odd check. */

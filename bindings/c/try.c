@@ -1,4 +1,4 @@
-/* Calls each of the thirteen functions from C. Says which line is wrong, or "c: 13 functions answer". */
+/* Calls each of the fourteen functions from C. Says which line is wrong, or "c: 14 functions answer". */
 #include "qcldpc.h"
 
 #include <stdio.h>
@@ -62,6 +62,42 @@ static void longest_cycle(void)
     EXPECT(qcldpc_girth(zeros, 4, 2, 2, 4, 18, out, QCLDPC_OUT) == 0 && out[0] == 2);
     for (int k = 2; k < 8; k++)
         EXPECT(out[1 + k] == 0 && out[9 + k] == 0);
+}
+
+/* The girth test by sorted pairs, in a work list of so many places that holds 0, 1, 2, ... before the call. */
+static uint64_t work[17];
+
+static uint64_t pairs(const int16_t *entries, uint64_t lift, uint64_t target, size_t places)
+{
+    for (size_t k = 0; k < 17; k++)
+        work[k] = k;
+    return qcldpc_girth_pairs(entries, 4, 2, 2, lift, target, work, places, out, QCLDPC_OUT);
+}
+
+/* Whether the work list is as it was before the call. */
+static int as_lent(void)
+{
+    for (size_t k = 0; k < 17; k++)
+        if (work[k] != k)
+            return 0;
+    return 1;
+}
+
+/* From each column of the plans here two walks of every length lead away: at 18 a tree has 1 + 8 * 2 nodes, at 6 it has 5. */
+static void sorted_pairs(void)
+{
+    const int16_t turning[4] = {0, 0, 0, 1}, zeros[4] = {0, 0, 0, 0}, bad[4] = {0, 0, 0, -2};
+    EXPECT(pairs(turning, 4, 18, 17) == 0 && out[0] == 1);
+    EXPECT(pairs(turning, 4, 16, 17) == 0 && out[0] == 0);
+    EXPECT(pairs(turning, 4, 16, 15) == 0 && out[0] == 0);
+    EXPECT(pairs(zeros, 1, 6, 5) == 0 && out[0] == 1);
+    EXPECT(pairs(turning, 4, 18, 16) == 26 && as_lent());
+    EXPECT(pairs(zeros, 1, 6, 4) == 26 && as_lent());
+    EXPECT(pairs(zeros, 1, 6, 0) == 26 && as_lent());
+    EXPECT(pairs(zeros, 1, 20, 17) == 14 && as_lent());
+    EXPECT(pairs(zeros, 1, 7, 0) == 14 && as_lent());
+    EXPECT(pairs(bad, 1, 7, 0) == 6 && out[0] == 3 && as_lent());
+    EXPECT(qcldpc_girth_pairs(plan, 2, 1, 2, 2, 12, NULL, 0, out, QCLDPC_OUT) == 26);
 }
 
 static void words(void)
@@ -266,6 +302,7 @@ int main(void)
 {
     plans();
     longest_cycle();
+    sorted_pairs();
     words();
     previews();
     erasures();
@@ -276,6 +313,6 @@ int main(void)
     unpadded_texts();
     too_small_an_out();
     if (!wrong)
-        puts("c: 13 functions answer");
+        puts("c: 14 functions answer");
     return wrong;
 }

@@ -4,10 +4,9 @@
 //! and girth 12, at 12, 14 and 18. Each takes the plan as numbers and builds its own lists of it.
 mod common;
 
-use common::{cyclic_plan, plan_of, printed, shift, OwnedPlan, Sequence};
+use common::{changed, cyclic_plan, medians, plan_of, printed, shift, steiner_plan, OwnedPlan};
 use qcldpc::{Girth, Plan};
 use std::hint::black_box;
-use std::time::Instant;
 
 #[link(name = "plain_halfway", kind = "static")]
 extern "C" {
@@ -157,28 +156,11 @@ fn agreed(plan: &OwnedPlan, target: usize, searches: &[Search]) -> Option<usize>
     girth
 }
 
-// The median times of searches, in seconds, each run in turn.
-fn medians(plan: &OwnedPlan, target: usize, searches: &[Search]) -> Vec<f64> {
-    let mut times = vec![vec![]; searches.len()];
-    for _ in 0..TURNS {
-        for ((_, search), times) in searches.iter().zip(&mut times) {
-            let begin = Instant::now();
-            black_box(search(black_box(plan), black_box(target)));
-            times.push(begin.elapsed().as_secs_f64());
-        }
-    }
-    let median = |times: &mut Vec<f64>| {
-        times.sort_by(f64::total_cmp);
-        times[TURNS / 2]
-    };
-    times.iter_mut().map(median).collect()
-}
-
 // Prints the median of each search, and how many times as long the first takes as each other; gives the first's, in seconds.
 fn beside(name: &str, plan: &OwnedPlan, target: usize, searches: &[Search]) -> f64 {
     let girth = agreed(plan, target, searches).map_or(format!("{target} or more"), |girth| girth.to_string());
     println!("{name}: {} x {}, lift {}, girth {girth}", plan.rows(), plan.cols(), plan.lift());
-    let times = medians(plan, target, searches);
+    let times = medians(TURNS, searches, |(_, search)| _ = black_box(search(black_box(plan), black_box(target))));
     println!("  {} {:.3} ms", searches[0].0, times[0] * 1e3);
     for ((name, _), time) in searches.iter().zip(&times).skip(1) {
         println!("  {name} {:.3} ms, ratio {:.3}", time * 1e3, times[0] / time);
@@ -236,36 +218,6 @@ fn plane() -> OwnedPlan {
     plan_of((0..rows * cols).map(block).collect(), rows, cols, lift)
 }
 
-// A table plan with its last filled block changed, so that it may fail.
-fn changed(plan: &OwnedPlan, by: i16) -> OwnedPlan {
-    let mut plan = plan.clone();
-    let last = plan.entries().iter().rposition(|&e| e >= 0).expect("a filled block");
-    let entry = plan.entries()[last] + by;
-    plan.change(last / plan.cols(), last % plan.cols(), entry).expect("a block of the plan");
-    plan
-}
-
-// The plan of the first columns of a Steiner plan.
-fn first_columns(plan: &OwnedPlan, cols: usize) -> OwnedPlan {
-    let entries = plan.entries().chunks_exact(plan.cols()).flat_map(|row| &row[..cols]).copied().collect();
-    plan_of(entries, plan.rows(), cols, plan.lift())
-}
-
-// A Steiner plan of order 19 that passes at 12: voltages are drawn column by column, those of a column until the columns so far
-// pass.
-fn steiner() -> OwnedPlan {
-    let (lift, cols) = (1000, 57);
-    let build = |voltages: &[i16]| OwnedPlan::steiner(19, lift, voltages).expect("voltages of the right number");
-    let mut sequence = Sequence(1);
-    let mut voltages = vec![0; 3 * cols];
-    let mut k = 0;
-    while k < cols {
-        voltages[3 * k..3 * k + 3].fill_with(|| (sequence.next() % lift as u64) as i16);
-        k += (proved(&first_columns(&build(&voltages), k + 1), 12) == Girth::Passed) as usize;
-    }
-    build(&voltages)
-}
-
 // Table plans, at 12.
 fn tables() {
     let (seven, six) = (cyclic_plan(7, 28, &[1; 49]), cyclic_plan(6, 19, &[1; 36]));
@@ -287,8 +239,8 @@ fn slow_plans() {
 }
 
 // A Steiner plan at the target where it passes, at the next, and at the largest.
-fn steiner_plan() {
-    let plan = steiner();
+fn steiner() {
+    let plan = steiner_plan();
     for target in [12, 14, 18] {
         let time = beside(&format!("Steiner plan of order 19, target {target}"), &plan, target, &[PROVED, HALFWAY]);
         assert!(time < 0.5, "a verdict on a Steiner plan takes less than half a second");
@@ -298,5 +250,5 @@ fn steiner_plan() {
 fn main() {
     tables();
     slow_plans();
-    steiner_plan();
+    steiner();
 }

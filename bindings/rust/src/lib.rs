@@ -62,7 +62,7 @@ impl Plan<'_> {
     }
 }
 
-/// Why a call gives no result: a number from 1 to 25 (README.md, "Refusals") and its values.
+/// Why a call gives no result: a number from 1 to 26 (README.md, "Refusals") and its values.
 #[derive(Clone, Debug, PartialEq, Eq)]
 pub struct Refusal {
     pub number: u64,
@@ -150,6 +150,37 @@ pub fn girth(plan: &Plan, target: usize) -> Result<Girth, Refusal> {
             0 => Girth::Passed,
             n => Girth::Failed { checks: usizes(&out[1..1 + n]), bits: usizes(&out[9..9 + n]) },
         },
+    )
+}
+
+/// Whether no simple cycle has fewer edges than the target, by sorted pairs, for larger plans: `true` where the plan passes. It
+/// shows no cycle, and agrees with [`girth`] wherever it gives a verdict.
+///
+/// The work list is for the tree of one column at a time: all walks of 0 to `target/2 − 1` edges from the column's bit 0 that
+/// never step back, the root included. Where columns have `c` and rows `r` filled blocks, or fewer, it has at most
+/// `1 + c + c·(r − 1) + c·(r − 1)·(c − 1) + …` nodes, `target/2` terms. After a verdict, what the list holds is free.
+///
+/// Refusals 1 to 6, 14, and 26 where the tree of some column has more nodes than the list has places, whatever the other trees
+/// show; the list is then as it was.
+///
+/// The plan here has cycles of 16 edges and none shorter. From each column two walks of every length lead away, so that the
+/// tree at target 18 has 1 + 8 · 2 nodes:
+///
+/// ```
+/// use qcldpc::{girth_pairs, Plan, Refusal};
+///
+/// let plan = Plan { entries: &[0, 0, 0, 1], rows: 2, cols: 2, lift: 4 };
+/// let mut work = [0; 17];
+/// assert_eq!(girth_pairs(&plan, 16, &mut work), Ok(true));
+/// assert_eq!(girth_pairs(&plan, 18, &mut work), Ok(false));
+/// assert_eq!(girth_pairs(&plan, 18, &mut work[..16]), Err(Refusal { number: 26, values: vec![] }));
+/// ```
+pub fn girth_pairs(plan: &Plan, target: usize, work: &mut [u64]) -> Result<bool, Refusal> {
+    let (p, n, rows, cols, lift) = plan.lent();
+    let (w, wn) = place(work);
+    call(
+        |out, len| unsafe { raw::qcldpc_girth_pairs(p, n, rows, cols, lift, target as u64, w, wn, out, len) },
+        |out| out[0] == 0,
     )
 }
 

@@ -1,4 +1,4 @@
-//! The thirteen functions as `include/qcldpc.h` declares them: a slice passes as a pointer, then its length.
+//! The fourteen functions as `include/qcldpc.h` declares them: a slice passes as a pointer, then its length.
 //! Nothing is asked of numbers and bytes; each pointer goes with the length of its memory, and memory that is written
 //! overlaps no other. A call returns within 1 MiB of stack.
 
@@ -26,6 +26,19 @@ extern "C" {
         cols: u64,
         lift: u64,
         target: u64,
+        out: *mut u64,
+        out_len: usize,
+    ) -> u64;
+
+    pub fn qcldpc_girth_pairs(
+        plan: *const i16,
+        plan_len: usize,
+        rows: u64,
+        cols: u64,
+        lift: u64,
+        target: u64,
+        work: *mut u64,
+        work_len: usize,
         out: *mut u64,
         out_len: usize,
     ) -> u64;

@@ -2,6 +2,7 @@
 // and writes a line for each answer, to be compared with the stored output.
 mod changes; // changes.rt: one block changed
 mod lowered; // lowered.rt: a matrix with P lowered, so that voltages stand at or above it
+mod pairs; // pairs.rt: the girth test by sorted pairs
 mod say; // say.rt: what is written
 mod source000; // source000.rt: the degree matrices of source 000
 mod source000_sts; // source000_sts.rt: the degree matrices of source 000 from Steiner triple systems
@@ -33,4 +34,9 @@ fn main() {
     steiner_plans::negative();
     changes::small();
     changes::judged_again();
+    pairs::example_one();
+    pairs::labelings();
+    pairs::four_columns();
+    pairs::five_columns();
+    pairs::five_lowered();
 }

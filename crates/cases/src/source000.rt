@@ -79,7 +79,7 @@ const II_K8_M153: [[i16; 11]; 2] = [
 ];
 
 // Table III: girth 8.
-const III_K4_M9: [[i16; 11]; 2] = [
+pub const III_K4_M9: [[i16; 11]; 2] = [
     [1, 4, 6, 0, 0, 0, 0, 0, 0, 0, 0],
     [5, 2, 3, 0, 0, 0, 0, 0, 0, 0, 0],
 ];
@@ -211,7 +211,7 @@ const V_K4_M73: [[i16; 11]; 2] = [
     [18, 6, 5, 0, 0, 0, 0, 0, 0, 0, 0],
 ];
 
-const V_K5_M163: [[i16; 11]; 2] = [
+pub const V_K5_M163: [[i16; 11]; 2] = [
     [5, 33, 42, 117, 0, 0, 0, 0, 0, 0, 0],
     [36, 35, 25, 57, 0, 0, 0, 0, 0, 0, 0],
 ];
@@ -267,6 +267,16 @@ fn put_row(row: [i16; 11], start: usize, cols: usize, plan: &mut [i16; 36])
     }
 }
 
+// Writes the rows of W' into a plan of zeros.
+pub fn put_rows(rows: [[i16; 11]; 2], cols: usize, plan: &mut [i16; 36])
+    requires { ⌜ cols ≤ 12 ⌝ }
+{
+    let first = rows[0];
+    let second = rows[1];
+    put_row(first, 0, cols, plan);
+    put_row(second, cols, cols, plan);
+}
+
 // The verdicts on the plan of three rows.
 fn of_three_rows(plan: [i16; 36], cols: usize, lift: usize, girth: usize)
     requires { ⌜ cols ≤ 12 ⌝ }
@@ -287,11 +297,8 @@ fn with_less(plan: [i16; 36], cols: usize)
 fn code(girth: usize, cols: usize, lift: usize, rows: [[i16; 11]; 2])
     requires { ⌜ cols ≤ 12 ⌝ }
 {
-    let first = rows[0];
-    let second = rows[1];
     let mut plan = [0i16; 36];
-    put_row(first, 0, cols, &mut plan);
-    put_row(second, cols, cols, &mut plan);
+    put_rows(rows, cols, &mut plan);
     number(b", K = ", cols);
     number(b", M = ", lift);
     say(b": ");

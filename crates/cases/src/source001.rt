@@ -7,7 +7,7 @@ use crate::say::say;
 use crate::say::verdicts;
 
 // Table II, rate 1/4: the code (168, 42), with its printed girth 8.
-const II_M21: [[i16; 8]; 6] = [
+pub const II_M21: [[i16; 8]; 6] = [
     [7, -1, -1, 3, 0, -1, 5, -1],
     [-1, 1, -1, -1, 0, 4, 10, -1],
     [-1, -1, 0, 4, -1, 7, 9, -1],
@@ -17,7 +17,7 @@ const II_M21: [[i16; 8]; 6] = [
 ];
 
 // Table II, rate 1/4: the code (160, 40), with its printed girth 10.
-const II_M20: [[i16; 8]; 6] = [
+pub const II_M20: [[i16; 8]; 6] = [
     [0, -1, -1, 6, 15, -1, 11, -1],
     [-1, 6, -1, -1, 9, 0, 0, -1],
     [-1, -1, 6, 0, -1, 2, 14, -1],
@@ -38,7 +38,7 @@ const G14_M264: [[i16; 8]; 6] = [
 ];
 
 // Writes the rows into a plan, one after another.
-fn put_rows(rows: [[i16; 8]; 6], plan: &mut [i16; 48]) {
+pub fn put_rows(rows: [[i16; 8]; 6], plan: &mut [i16; 48]) {
     let mut n = 0;
     while n < 48 {
         plan[n] = rows[n / 8][n % 8];

@@ -6,7 +6,7 @@ use crate::say::number;
 use crate::say::say;
 use crate::text::alist_of;
 
-const VOLTAGES: [i16; 12] = [0, 0, 0, 0, 0, 0, 1, 1, 0, 1, 0, 1];
+pub const VOLTAGES: [i16; 12] = [0, 0, 0, 0, 0, 0, 1, 1, 0, 1, 0, 1];
 
 fn example(lift: usize) {
     number(b"002 example 1, P = ", lift);

@@ -53,6 +53,10 @@ module _ (lift : ℕ) where
       λ i k. count (λ j. isFilled (same-entry same (i * cols + j) k)) (below cols),
     )
 
+    pub same-block : (i j : ℕ) → blockAt p cols lift i j ≡ blockAt q cols lift i j
+    unfolding blockAt
+    same-block i j = same-entry same (i * cols + j)
+
     -- every edge is in the same place
     pub same-graph : tanner p rows cols lift ≡ tanner q rows cols lift
     unfolding tanner blockAt

@@ -7,7 +7,8 @@ use Rattle.walks.specs.declared.trail.Trail.{Trail}
 use Rattle.walks.specs.Steps.{Blocks}
 use Rattle.walks.specs.Meeting.{Result, shortCycle}
 use Rattle.walks.specs.Trail.{found}
-use Rattle.walks.proofs.Loops.{found-none, found-some, one-less, none-left}
+use Rattle.walks.proofs.Each.{one-less, none-left}
+use Rattle.walks.proofs.Loops.{found-none, found-some}
 use Rattle.girth.specs.declared.Outcome.the-variants.{Passed}
 use Rattle.girth.specs.Test.{without-witness}
 use Rattle.girth.specs.Model.{witness, unlessFound, shortest}

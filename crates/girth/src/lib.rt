@@ -29,7 +29,7 @@ pub struct GirthTest {
 }
 
 // Whether the target is one that the test takes.
-fn is_allowed(target: usize) -> bool
+pub fn is_allowed(target: usize) -> bool
     ensures { λ r. ⌜ r ≡ allowed target ⌝ }
 {
     match target {

@@ -7,11 +7,12 @@ use mathlib.Core.List.{List, [], _∷_, _++_, append-assoc}
 use native.Mathlib.Omega.{arith}
 use native.Mathlib.Decide.{decLe}
 use lib.ListN.{length, getD, length-append}
-use Rattle.graph.specs.Count.{Mem}
+use Rattle.graph.specs.Count.{Mem, Nodup}
 use Rattle.graph.specs.Graph.{Bipartite, Joined}
 use Rattle.graph.specs.Girth.{SimpleCycle, Passes}
-use Rattle.graph.proofs.Lists.{Nodup, getD-nodup, nodup-turn, mem-append, place, last, last-mem, last-append}
-use Rattle.graph.proofs.Walks.{Node, check, bit, check-inj, bit-inj, check-not-bit, Adj, Walk, Apart, Cycle, fork}
+use Rattle.graph.proofs.Lists.{getD-nodup, nodup-turn, mem-append, place, last, last-mem, last-append}
+use Rattle.graph.specs.Walks.{Node, check, bit, Adj, Walk, Apart}
+use Rattle.graph.proofs.Walks.{check-inj, bit-inj, check-not-bit, Cycle, fork}
 use Rattle.graph.proofs.Cycles.{passes-none, Ring, front}
 
 ring-from : (G : Bipartite) (z : ℕ) (cs bs : List ℕ) → length cs ≡ length bs → ((k : ℕ) → k < length cs → Joined G (getD cs k 0) (getD bs k 0)) → ((k : ℕ) → suc k < length cs → Joined G (getD cs (suc k) 0) (getD bs k 0)) → (0 < length cs → Joined G z (getD bs (pred (length cs)) 0)) → Ring G z cs bs

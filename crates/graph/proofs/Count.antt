@@ -9,9 +9,8 @@ use native.Mathlib.Nat.{zero-add, add-zero}
 use borrow.Author.Tests.{eqb-true, eq-eqb, ne-eqb}
 use lib.Dec.{eqb}
 use lib.ListN.{length, getD, length-map}
-use Rattle.graph.specs.Count.{range, below, select, one, count, member, Mem}
+use Rattle.graph.specs.Count.{range, below, select, one, count, member, Mem, Nodup}
 use Rattle.graph.proofs.Decide.{by-bool, by-eq, by-le, both-ways}
-use Rattle.graph.proofs.Lists.{Nodup}
 
 -- Ranges
 

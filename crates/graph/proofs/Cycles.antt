@@ -6,11 +6,12 @@ use mathlib.Core.List.{List, [], _∷_, _++_}
 use mathlib.Core.Option.{Option, none, some, Option·none-ne-some}
 use native.Mathlib.Omega.{arith}
 use lib.ListN.{length, getD, length-append}
-use Rattle.graph.specs.Count.{Mem}
+use Rattle.graph.specs.Count.{Mem, Nodup}
 use Rattle.graph.specs.Graph.{Bipartite, Joined}
 use Rattle.graph.specs.Girth.{SimpleCycle, Passes, IsGirth}
-use Rattle.graph.proofs.Lists.{Nodup, last, nodup-turn, last-append, nodup-getD}
-use Rattle.graph.proofs.Walks.{Node, check, bit, Adj, Walk, Cycle, walk-left, last-adj}
+use Rattle.graph.proofs.Lists.{last, nodup-turn, last-append, nodup-getD}
+use Rattle.graph.specs.Walks.{Node, check, bit, Adj, Walk}
+use Rattle.graph.proofs.Walks.{Cycle, walk-left, last-adj}
 
 -- the numbers of a list's vertices of one kind
 abbrev pub add : Option ℕ → List ℕ → List ℕ

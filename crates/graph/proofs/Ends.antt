@@ -6,12 +6,13 @@ use mathlib.Core.Logic.{_≢_}
 use mathlib.Core.List.{List, [], _∷_, _++_, map}
 use native.Mathlib.Omega.{arith}
 use lib.ListN.{length, length-append, length-map}
-use Rattle.graph.specs.Count.{Mem}
+use Rattle.graph.specs.Count.{Mem, Nodup}
 use Rattle.graph.specs.Graph.{Bipartite}
 use Rattle.graph.specs.Girth.{Passes}
 use Rattle.graph.proofs.Count.{few-below}
-use Rattle.graph.proofs.Lists.{Nodup, last, mem-either, nodup-append, each-image, nodup-image}
-use Rattle.graph.proofs.Walks.{Node, check, bit, Adj, Walk, diverge}
+use Rattle.graph.proofs.Lists.{last, mem-either, nodup-append, each-image, nodup-image}
+use Rattle.graph.specs.Walks.{Node, check, bit, Adj, Walk}
+use Rattle.graph.proofs.Walks.{diverge}
 use Rattle.graph.proofs.Cycles.{passes-none}
 
 module _ (G : Bipartite) where

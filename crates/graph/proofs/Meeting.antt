@@ -6,12 +6,13 @@ use mathlib.Core.Logic.{_⊎_, inl, inr, _≢_}
 use mathlib.Core.List.{List, [], _∷_, _++_, reverseAux}
 use native.Mathlib.Omega.{arith}
 use lib.ListN.{length, length-append, length-reverseAux}
-use Rattle.graph.specs.Count.{Mem}
+use Rattle.graph.specs.Count.{Mem, Nodup}
 use Rattle.graph.specs.Graph.{Bipartite}
 use Rattle.graph.specs.Girth.{SimpleCycle, Passes}
-use Rattle.graph.proofs.Lists.{Nodup, last, last-append, mem-append, decNodup}
+use Rattle.graph.proofs.Lists.{last, last-append, mem-append, decNodup}
 use Rattle.graph.proofs.Decide.{by-le}
-use Rattle.graph.proofs.Walks.{Node, check, bit, same?, Adj, Walk, Cycle, Fork, turn, unturn, core-cycle, diverge}
+use Rattle.graph.specs.Walks.{Node, check, bit, Adj, Walk}
+use Rattle.graph.proofs.Walks.{same?, Cycle, Fork, turn, unturn, core-cycle, diverge}
 use Rattle.graph.proofs.Cycles.{both, checks-of, bits-of, walk-cycle, passes-none}
 use Rattle.graph.proofs.Closed.{weave, cycle-of, cycle-weave, turn-to}
 

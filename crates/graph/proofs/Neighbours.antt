@@ -1,9 +1,8 @@
 -- The bits of a check and the checks of a bit. Assumes nothing.
 use Prim.Native.Nat.{ℕ, _<_}
 use native.Mathlib.Omega.{arith}
-use Rattle.graph.specs.Count.{below, Mem}
+use Rattle.graph.specs.Count.{below, Mem, Nodup}
 use Rattle.graph.specs.Graph.{Bipartite, Joined, bitsOf, checksOf}
-use Rattle.graph.proofs.Lists.{Nodup}
 use Rattle.graph.proofs.Count.{mem-range, range-mem, nodup-range, mem-select, select-mem, nodup-select}
 
 -- a number below n

@@ -7,14 +7,15 @@ use mathlib.Core.Bool.{Bool, true}
 use mathlib.Core.List.{List, [], _∷_, _++_}
 use native.Mathlib.Omega.{arith}
 use lib.ListN.{length, getD, length-append}
-use Rattle.graph.specs.Count.{below, count, Mem}
+use Rattle.graph.specs.Count.{below, count, Mem, Nodup}
 use Rattle.graph.specs.Graph.{Bipartite, Joined, bitsOf, checksOf}
 use Rattle.graph.specs.Girth.{Passes}
 use Rattle.graph.specs.Stopping.{Stopping, ThreeChecks, Least, girth-6, girth-8, girth-10, girth-12, girth-14, girth-16, girth-18}
-use Rattle.graph.proofs.Lists.{Nodup, getD-mem, last, mem-append, mem-either, nodup-append}
+use Rattle.graph.proofs.Lists.{getD-mem, last, mem-append, mem-either, nodup-append}
 use Rattle.graph.proofs.Count.{crowd, another, TwoOthers, two-others, nodup-range}
 use Rattle.graph.proofs.Neighbours.{below-mem, bit-joined, joined-bit, check-joined, joined-check, bits-nodup, checks-nodup}
-use Rattle.graph.proofs.Walks.{Node, check, bit, check-inj, bit-inj, Adj, Walk, Cycle, fork}
+use Rattle.graph.specs.Walks.{Node, check, bit, Adj, Walk}
+use Rattle.graph.proofs.Walks.{check-inj, bit-inj, Cycle, fork}
 use Rattle.graph.proofs.Cycles.{passes-none}
 
 -- bit x is reached from p over v, by a walk of fewer than n edges

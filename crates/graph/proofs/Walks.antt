@@ -7,15 +7,10 @@ use mathlib.Core.List.{List, [], _∷_, _++_, reverseAux, append-assoc}
 use native.Mathlib.Omega.{arith}
 use native.Mathlib.Decide.{ℕ-discrete}
 use lib.ListN.{length, length-append, length-reverseAux}
-use Rattle.graph.specs.Count.{Mem}
-use Rattle.graph.specs.Graph.{Bipartite, Joined}
-use Rattle.graph.proofs.Lists.{Nodup, last, nodup-left, last-mem, Place, place, decMem, decNodup}
-
--- a check is never a bit, even where their numbers are equal
-pub data Node : Type 0 where
-  check : ℕ → Node
-  bit : ℕ → Node
-  deriving Discrete as Node-discrete
+use Rattle.graph.specs.Count.{Mem, Nodup}
+use Rattle.graph.specs.Graph.{Bipartite}
+use Rattle.graph.specs.Walks.{Node, check, bit, Node-discrete, Adj, Apart, Walk, Next}
+use Rattle.graph.proofs.Lists.{last, nodup-left, last-mem, Place, place, decMem, decNodup}
 
 pub check-inj : (a b : ℕ) → check a ≡ check b → a ≡ b
 check-inj a b e = cc
@@ -29,12 +24,6 @@ check-not-bit a b e = let z : _≡_ {A = ℕ} 0 1 = cc in omega arith
 pub same? : Discrete Node
 same? = Node-discrete ℕ-discrete
 
-unfoldable pub Adj : Bipartite → Node → Node → Type 0
-Adj G (check c) (check d) = ⊥
-Adj G (check c) (bit b) = Joined G c b
-Adj G (bit b) (check c) = Joined G c b
-Adj G (bit a) (bit b) = ⊥
-
 pub adj-sym : (G : Bipartite) (u v : Node) → Adj G u v → Adj G v u
 unfolding Adj
 adj-sym G (check c) (check d) e = e
@@ -46,19 +35,6 @@ pub adj-irr : (G : Bipartite) (u : Node) → ¬ Adj G u u
 unfolding Adj
 adj-irr G (check c) e = e
 adj-irr G (bit b) e = e
-
--- A non-backtracking walk: each vertex is joined to the next one, and is not the next but one.
-abbrev pub Apart : Node → List Node → Type 0
-Apart u [] = Unit {0}
-Apart u (w ∷ l) = u ≢ w
-
-abbrev pub Next : Bipartite → Node → List Node → Type 0
-Next G u [] = Unit {0}
-Next G u (v ∷ l) = Adj G u v × Apart u l
-
-abbrev pub Walk : Bipartite → List Node → Type 0
-Walk G [] = Unit {0}
-Walk G (u ∷ l) = Next G u l × Walk G l
 
 -- A closed part of a list: it comes back to its first vertex, and has at least three vertices, all distinct.
 pub record Part (w : List Node) : Type 0 where

@@ -40,6 +40,11 @@ abbrev pub Mem : {A : Type 0} → A → List A → Type 0
 Mem x [] = ⊥
 Mem x (y ∷ l) = (x ≡ y) ⊎ Mem x l
 
+-- no element of a list stands twice
+abbrev pub Nodup : {A : Type 0} → List A → Type 0
+Nodup [] = Unit {0}
+Nodup (x ∷ l) = (¬ Mem x l) × Nodup l
+
 -- whether there is a number
 abbrev pub isSome : Option ℕ → Bool
 isSome none = false

@@ -1,5 +1,6 @@
 pub mod Count
 pub mod Graph
+pub mod Walks
 pub mod Girth
 pub mod Stopping
 pub mod Erasure

@@ -8,9 +8,9 @@ use native.Mathlib.Nat.{div-add-mod', zero-add}
 use native.Mathlib.Numerals.{add-one}
 use native.Mathlib.Omega.{arith}
 use lib.ListN.{length, getD}
-use Rattle.graph.specs.Count.{range, below, select, Mem}
+use Rattle.graph.specs.Count.{range, below, select, Mem, Nodup}
 use Rattle.graph.proofs.Decide.{by-le}
-use Rattle.graph.proofs.Lists.{Nodup, mem-append, nodup-append, nodup-getD}
+use Rattle.graph.proofs.Lists.{mem-append, nodup-append, nodup-getD}
 use Rattle.graph.proofs.Count.{mem-range, nodup-range, range-append, select-append, mem-select, nodup-select}
 use Rattle.square.specs.Each.{each, upon}
 use Rattle.square.proofs.Places.{digit, first-digit}

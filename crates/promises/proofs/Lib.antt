@@ -1,6 +1,7 @@
 pub mod Two
 pub mod Matching
 pub mod PlanRows
+pub mod PairRows
 pub mod WeightRows
 pub mod TableRows
 pub mod WordRows
@@ -18,3 +19,4 @@ pub mod Counts
 pub mod Remainders
 pub mod Preview
 pub mod Changes
+pub mod Pairs

@@ -102,10 +102,11 @@ pub in-more-rows : (A B : ℕ → List ℕ → Type 0) → ((n : ℕ) (l : List 
 in-more-rows A B f s (inl a) = inl (f (number s) (values s) a)
 in-more-rows A B f s (inr o) = inr (record { other = o .other; its-values = o .its-values; applies = f (o .other) (o .its-values) (o .applies); lower = o .lower })
 
--- two lists, and the rows of either
+-- two lists, and the rows of either; where a test of the second list differs from its row, a lower row of either applies
 module _ (rules others : List Rule) (A B : ℕ → List ℕ → Type 0) where
-  pub join : Matches rules A → Matches others B → Matches (rules ++ others) (A or B)
-  join m n =
+  pub join-lower : Matches rules A → ((s : Refusal) → In (refuse s true) others → RowOrLower (A or B) s) → ((n : ℕ) (l : List ℕ) → B n l → Listed others n l)
+      → Matches (rules ++ others) (A or B)
+  join-lower m told row =
       record {
         listed = λ s i. by-list s (in-either rules others i);
         applies = by-row;
@@ -113,11 +114,14 @@ module _ (rules others : List Rule) (A B : ℕ → List ℕ → Type 0) where
     where
       by-list : (s : Refusal) → In (refuse s true) rules ⊎ In (refuse s true) others → RowOrLower (A or B) s
       by-list s (inl i) = in-more-rows A (A or B) (λ n l a. inl a) s (m .listed s i)
-      by-list s (inr i) = in-more-rows B (A or B) (λ n l b. inr b) s (n .listed s i)
+      by-list s (inr i) = told s i
 
       by-row : (k : ℕ) (l : List ℕ) → (A or B) k l → Listed (rules ++ others) k l
       by-row k l (inl a) = in-more-rules rules (rules ++ others) (λ rule i. in-first others i) k l (m .applies k l a)
-      by-row k l (inr b) = in-more-rules others (rules ++ others) (λ rule i. in-second rules i) k l (n .applies k l b)
+      by-row k l (inr b) = in-more-rules others (rules ++ others) (λ rule i. in-second rules i) k l (row k l b)
+
+  pub join : Matches rules A → Matches others B → Matches (rules ++ others) (A or B)
+  join m n = join-lower m (λ s i. in-more-rows B (A or B) (λ n l b. inr b) s (n .listed s i)) (n .applies)
 
 -- ONE RULE AT A TIME: what is listed is the first rule, with its test true, or stands further on
 module _ (C : Refusal → Type 0) (r : Refusal) (test : Bool) (rules : List Rule) where

@@ -3,7 +3,7 @@ use Prim.Native.Nat.{ℕ, _*_}
 use mathlib.Core.Path.{_≡_, refl, sym, ap, subst, _∙_}
 use mathlib.Core.Bool.{Bool, true, false, cond}
 use mathlib.Core.List.{List}
-use mathlib.Core.Option.{Option, none, some}
+use mathlib.Core.Option.{Option, none, some, Option·none-ne-some}
 use lib.Dec.{ltb}
 use lib.IntN.{ℤ}
 use lib.ListN.{length}
@@ -16,6 +16,10 @@ use Rattle.exponent.proofs.Rules as plan-rules
 use Rattle.girth.specs.declared.GirthTest.{GirthTest}
 use Rattle.girth.specs.Test.{testRules, Answer, refused, passed, failed}
 use Rattle.girth.proofs.Rules as test-rules
+use Rattle.treetest.specs.declared.Verdict.{Verdict}
+use Rattle.treetest.specs.declared.Verdict.the-variants as verdict
+use Rattle.treetest.specs.Answer as pairs
+use Rattle.treetest.proofs.Answers as pair-rules
 use Rattle.syndrome.specs.declared.Syndrome.the-variants.{Even, Odd}
 use Rattle.syndrome.specs.Check.{checkRules, lowestOdd, answer, found, syndromeOf}
 use Rattle.syndrome.proofs.Rules as check-rules
@@ -38,9 +42,10 @@ use Rattle.steiner.proofs.Plans as steiner-rules
 use Rattle.alist.specs.Calls.{alistText, writeRules, written, laid, comparison}
 use Rattle.alist.proofs.Answers as text-rules
 use Rattle.promises.specs.TurnedAway.{LowestOf}
-use Rattle.promises.specs.One.{ofValidity, ofOutcome, ofSyndrome, ofFilling, ofSupplied, ofBuilt, ofWritten, ofComparison, ofChanged, Unchanged, Promise-1}
+use Rattle.promises.specs.One.{ofValidity, ofOutcome, ofVerdict, ofSyndrome, ofFilling, ofSupplied, ofBuilt, ofWritten, ofComparison, ofChanged, Unchanged, Promise-1}
 use Rattle.promises.proofs.Matching.{Matches, lowest-of}
 use Rattle.promises.proofs.PlanRows.{plan-matches, test-matches}
+use Rattle.promises.proofs.PairRows.{pairs-matches}
 use Rattle.promises.proofs.WordRows.{check-matches, fill-matches}
 use Rattle.promises.proofs.TableRows.{supply-matches, build-matches}
 use Rattle.promises.proofs.SteinerRows.{steiner-matches}
@@ -97,10 +102,20 @@ kept leaves before same o answer e r q = ap leaves (sym e ∙ q) ∙ same r
 answered : (rules : List Rule) (Applies : ℕ → List ℕ → Type 0) (a : Option Refusal) → rising rules ≡ true → Matches rules Applies → a ≡ lowest rules → LowestOf Applies a
 answered rules Applies a rise m e = subst (LowestOf Applies) (sym e) (lowest-of rules rise Applies m)
 
-tested : (plan : List ℤ) (rows cols lift target : ℕ) (a : GirthTest) → Answer plan rows cols lift target a → ofOutcome (a .outcome) ≡ lowest (testRules plan rows cols lift target)
+pub tested : (plan : List ℤ) (rows cols lift target : ℕ) (a : GirthTest) → Answer plan rows cols lift target a → ofOutcome (a .outcome) ≡ lowest (testRules plan rows cols lift target)
 tested plan rows cols lift target a (refused x e) = sym e
 tested plan rows cols lift target a (passed e p) = sym e
 tested plan rows cols lift target a (failed r e w) = ap ofOutcome (w .failed) ∙ sym e
+
+paired : (plan : List ℤ) (rows cols lift target places : ℕ) (a : Verdict) → pairs.Answer plan rows cols lift target places a → ofVerdict a ≡ lowest (pairs.pairRules plan rows cols lift target places)
+paired plan rows cols lift target places a (pairs.refused x e) = sym e
+paired plan rows cols lift target places a (pairs.passed e p) = sym e
+paired plan rows cols lift target places a (pairs.not-passed e p) = sym e
+
+work-kept : (lent after : List ℕ) (a : Verdict) → pairs.Leaves lent after a → Unchanged (ofVerdict a) lent after
+work-kept lent after verdict.Passed l r e = absurd (Option·none-ne-some r e)
+work-kept lent after verdict.NotPassed l r e = absurd (Option·none-ne-some r e)
+work-kept lent after (verdict.Refused x) l r e = l
 
 checked : (plan : List ℤ) (rows cols lift : ℕ) (word : List ℕ) → ofSyndrome (syndromeOf plan rows cols lift word) ≡ lowest (checkRules plan rows cols lift word)
 unfolding syndromeOf
@@ -124,6 +139,10 @@ promise-1 =
     record {
       validate = λ plan rows cols lift. answered _ _ _ (plan-rules.rules-rise plan rows cols lift) (plan-matches plan rows cols lift) (in-validity _);
       test = λ plan rows cols lift target a h. answered _ _ _ (test-rules.rules-rise plan rows cols lift target) (test-matches plan rows cols lift target) (tested plan rows cols lift target a h);
+      pairs = λ plan rows cols lift target lent after a h l. (
+        answered _ _ _ (pair-rules.rules-rise plan rows cols lift target (length lent)) (pairs-matches plan rows cols lift target (length lent)) (paired plan rows cols lift target (length lent) a h),
+        work-kept lent after a l,
+      );
       check = λ plan rows cols lift word. answered _ _ _ (check-rules.rules-rise plan rows cols lift word) (check-matches plan rows cols lift word) (checked plan rows cols lift word);
       fill = λ plan rows cols lift word. (
         answered _ _ _ (fill-rules.rules-rise plan rows cols lift word) (fill-matches plan rows cols lift word) (filled plan rows cols lift word),

@@ -14,7 +14,7 @@ use Rattle.exponent.specs.Plan.{invalidEntry}
 use Rattle.exponent.specs.Limits.{planRules}
 use Rattle.exponent.specs.Tanner.{tanner}
 use Rattle.exponent.specs.Remainders.{SameRemainders, none, empty, filled}
-use Rattle.exponent.proofs.Remainders.{same-rules, same-graph, same-weights, same-length, same-length-then, same-first-then}
+use Rattle.exponent.proofs.Remainders.{same-rules, same-block, same-graph, same-weights, same-length, same-length-then, same-first-then}
 use Rattle.weights.specs.declared.Side.{Side}
 use Rattle.weights.specs.declared.Side.the-variants.{Bits, Checks}
 use Rattle.weights.specs.Weights.{shapeOf, weightsOf, Held, held, right}
@@ -23,6 +23,10 @@ use Rattle.weights.proofs.Weights.{length-weights, weights-at, weights-by}
 use Rattle.weights.proofs.Changes.{taken, stays, was-accepted}
 use Rattle.girth.specs.declared.GirthTest.{GirthTest}
 use Rattle.girth.specs.Test.{Answer, refused, passed, failed, testRules}
+use Rattle.walks.specs.Steps.{blocksOf}
+use Rattle.treetest.specs.declared.Verdict.{Verdict}
+use Rattle.treetest.specs.Answer as pairs
+use Rattle.treetest.specs.Answer.{pairRules}
 use Rattle.syndrome.specs.Word.{wordRules}
 use Rattle.syndrome.specs.Check.{checkRules, syndromeOf}
 use Rattle.peeling.specs.Fill.{fillRules, fillAnswer, fillWord}
@@ -36,6 +40,17 @@ module _ (p q : List ℤ) (rows cols lift : ℕ) (rules : planRules p rows cols 
   allowed target r (refused x h) = refused x (rw rules at h)
   allowed target r (passed h w) = passed (rw rules at h) (rw graph at w)
   allowed target r (failed s h w) = failed s (rw rules at h) (rw graph at w)
+
+  -- and one of the test by sorted pairs
+  module _ (blocks : blocksOf p (shapeOf rows cols lift) ≡ blocksOf q (shapeOf rows cols lift)) where
+    same-pair-rules : (target places : ℕ) → pairRules p rows cols lift target places ≡ pairRules q rows cols lift target places
+    unfolding pairRules testRules
+    same-pair-rules target places = rw (rules, blocks)
+
+    judged : (target places : ℕ) (v : Verdict) → pairs.Answer p rows cols lift target places v → pairs.Answer q rows cols lift target places v
+    judged target places v (pairs.refused x h) = pairs.refused x (rw (same-pair-rules target places) at h)
+    judged target places v (pairs.passed h w) = pairs.passed (rw (same-pair-rules target places) at h) (rw graph at w)
+    judged target places v (pairs.not-passed h w) = pairs.not-passed (rw (same-pair-rules target places) at h) (rw graph at w)
 
 -- the same weights, so the same lists are right
 module _ (lift : ℕ) {p q : List ℤ} (same : SameRemainders lift p q) (rows cols : ℕ) where
@@ -98,11 +113,13 @@ unfolding checkRules wordRules syndromeOf fillRules fillAnswer fillWord writeRul
 same-remainders p q rows cols lift same =
     let rules = same-rules lift same rows cols in
     let graph = same-graph lift same rows cols in
+    let blocks : blocksOf p (shapeOf rows cols lift) ≡ blocksOf q (shapeOf rows cols lift) = λ k. record { rows = rows; cols = cols; lift = lift; block = λ i j. same-block lift same rows cols i j k } in
     record {
       graph = graph;
       valid = rw rules;
       girth = λ n. (λ g. rw graph at g, λ g. rw (sym graph) at g);
       girth-test = λ target r. (allowed p q rows cols lift rules graph target r, allowed q p rows cols lift (sym rules) (sym graph) target r);
+      by-pairs = λ target places v. (judged p q rows cols lift rules graph blocks target places v, judged q p rows cols lift (sym rules) (sym graph) (sym blocks) target places v);
       syndrome = λ word. rw (rules, graph);
       filling = λ word. rw (rules, graph);
       filled-word = λ word. rw (rules, graph);

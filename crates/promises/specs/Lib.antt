@@ -10,3 +10,4 @@ pub mod Counts
 pub mod Remainders
 pub mod Preview
 pub mod Changes
+pub mod Pairs

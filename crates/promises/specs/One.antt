@@ -16,6 +16,9 @@ use Rattle.girth.specs.declared.GirthTest.{GirthTest}
 use Rattle.girth.specs.declared.Outcome.{Outcome}
 use Rattle.girth.specs.declared.Outcome.the-variants as outcome
 use Rattle.girth.specs.Test.{Answer}
+use Rattle.treetest.specs.declared.Verdict.{Verdict}
+use Rattle.treetest.specs.declared.Verdict.the-variants as verdict
+use Rattle.treetest.specs.Answer as pairs
 use Rattle.syndrome.specs.declared.Syndrome.{Syndrome}
 use Rattle.syndrome.specs.declared.Syndrome.the-variants as syndrome
 use Rattle.syndrome.specs.Check.{syndromeOf}
@@ -41,7 +44,7 @@ use Rattle.alist.specs.declared.Written.the-variants as written-answer
 use Rattle.alist.specs.declared.Comparison.{Comparison}
 use Rattle.alist.specs.declared.Comparison.the-variants as comparison-answer
 use Rattle.alist.specs.Calls.{alistText, writeRules, written, laid, compareRules, comparison}
-use Rattle.promises.specs.TurnedAway.{LiftRow, PlanRow, TargetRow, SquareRow, TableRow, MaskRow, PlaceRow, WordRow, RoomRow, ErasureRow, SolutionRow, TokenRow, SteinerRow, NewEntryRow, BlockRow, WeightRow, _or_, LowestOf}
+use Rattle.promises.specs.TurnedAway.{LiftRow, PlanRow, TargetRow, SquareRow, TableRow, MaskRow, PlaceRow, WordRow, RoomRow, ErasureRow, SolutionRow, TokenRow, SteinerRow, NewEntryRow, BlockRow, WeightRow, WorkRow, _or_, LowestOf}
 
 -- the refusal in each kind of answer
 abbrev pub ofValidity : Validity → Option Refusal
@@ -52,6 +55,11 @@ abbrev pub ofOutcome : Outcome → Option Refusal
 ofOutcome outcome.Passed = none
 ofOutcome outcome.Failed = none
 ofOutcome (outcome.Refused r) = some r
+
+abbrev pub ofVerdict : Verdict → Option Refusal
+ofVerdict verdict.Passed = none
+ofVerdict verdict.NotPassed = none
+ofVerdict (verdict.Refused r) = some r
 
 abbrev pub ofSyndrome : Syndrome → Option Refusal
 ofSyndrome syndrome.Even = none
@@ -93,6 +101,10 @@ pub record Promise-1 : Type 0 where
   -- 1 to 6, 14; whichever witness is shown
   pub test : (plan : List ℤ) (rows cols lift target : ℕ) (answer : GirthTest) → Answer plan rows cols lift target answer
       → LowestOf (PlanRow plan rows cols lift or TargetRow target) (ofOutcome (answer .outcome))
+  -- 1 to 6, 14, 26 (document 02, slip 8); what the work list holds after a verdict is free
+  pub pairs : (plan : List ℤ) (rows cols lift target : ℕ) (lent after : List ℕ) (answer : Verdict) → pairs.Answer plan rows cols lift target (length lent) answer → pairs.Leaves lent after answer
+      → LowestOf (PlanRow plan rows cols lift or TargetRow target or WorkRow (tanner plan rows cols lift) cols lift target (length lent)) (ofVerdict answer)
+      × Unchanged (ofVerdict answer) lent after
   -- 1 to 6, 16, 18, 19
   pub check : (plan : List ℤ) (rows cols lift : ℕ) (word : List ℕ)
       → LowestOf (PlanRow plan rows cols lift or WordRow (cols * lift) word or ErasureRow word) (ofSyndrome (syndromeOf plan rows cols lift word))

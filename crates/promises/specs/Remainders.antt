@@ -15,6 +15,8 @@ use Rattle.weights.specs.Weights.{Held, held}
 use Rattle.weights.specs.Change.{changed, Call, call, refusalOf, after}
 use Rattle.girth.specs.declared.GirthTest.{GirthTest}
 use Rattle.girth.specs.Test.{Answer}
+use Rattle.treetest.specs.declared.Verdict.{Verdict}
+use Rattle.treetest.specs.Answer as pairs
 use Rattle.syndrome.specs.Check.{syndromeOf}
 use Rattle.peeling.specs.Fill.{fillAnswer, fillWord}
 use Rattle.alist.specs.Calls.{alistText, writeRules, written, laid, compareRules, comparison}
@@ -31,9 +33,10 @@ pub record SameAnswers (p q : List ℤ) (rows cols lift : ℕ) : Type 0 where
   -- every edge is in the same place, and the plans are valid alike;
   pub graph : tanner p rows cols lift ≡ tanner q rows cols lift
   pub valid : validity (lowest (planRules p rows cols lift)) ≡ validity (lowest (planRules q rows cols lift))
-  -- the girth, and every answer that the girth test's contract allows;
+  -- the girth, and every answer that the contracts of the girth test and of the one by sorted pairs (slip 8) allow;
   pub girth : (n : ℕ) → IsGirth (tanner p rows cols lift) n ↔ IsGirth (tanner q rows cols lift) n
   pub girth-test : (target : ℕ) (r : GirthTest) → Answer p rows cols lift target r ↔ Answer q rows cols lift target r
+  pub by-pairs : (target places : ℕ) (v : Verdict) → pairs.Answer p rows cols lift target places v ↔ pairs.Answer q rows cols lift target places v
   -- of every word the syndrome, the two numbers of its filling, and so of its preview, or the refusal, and what the word then holds;
   pub syndrome : (word : List ℕ) → syndromeOf p rows cols lift word ≡ syndromeOf q rows cols lift word
   pub filling : (word : List ℕ) → fillAnswer p rows cols lift word ≡ fillAnswer q rows cols lift word

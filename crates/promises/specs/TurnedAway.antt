@@ -10,7 +10,9 @@ use lib.ListN.{length, getD, take, drop}
 use Rattle.refusal.specs.declared.Refusal.{Refusal}
 use Rattle.refusal.specs.Number.{number, values}
 use Rattle.refusal.specs.Place.{First}
+use Rattle.graph.specs.Count.{Mem, Nodup}
 use Rattle.graph.specs.Graph.{Bipartite}
+use Rattle.graph.specs.Walks.{Node, bit, Walk}
 use Rattle.graph.specs.Erasure.{Solution}
 use Rattle.exponent.specs.Tanner.{rowWeight, columnWeight}
 use Rattle.weights.specs.declared.Room.{Room}
@@ -181,6 +183,17 @@ pub data WrongList (list : List ℕ) (n : ℕ) (weight : ℕ → ℕ) : Type 0 w
 -- 25, of the calls that do not build the plan: its row weights or its column weights are wrong
 pub data WeightRow (plan : List ℤ) (rows cols lift : ℕ) (byrow bycol : List ℕ) : ℕ → List ℕ → Type 0 where
   row-25 : WrongList byrow rows (rowWeight plan cols lift) ⊎ WrongList bycol cols (columnWeight plan rows cols lift) → WeightRow plan rows cols lift byrow bycol 25 []
+
+-- WHO LENDS A WORK LIST (document 02, slip 8). A node of the tree from a bit: a walk of at most d edges that never steps back, by the
+-- vertices after that bit; the root is the walk of none
+pub record TreeNode (G : Bipartite) (root d : ℕ) (l : List Node) : Type 0 where
+  pub walk : Walk G (bit root ∷ l)
+  pub short : length l ≤ d
+
+-- 26: the tree of some column j, from bit (j, 0) to half the length of the longest forbidden cycle, has more nodes than the list has places
+pub data WorkRow (G : Bipartite) (cols lift target places : ℕ) : ℕ → List ℕ → Type 0 where
+  row-26 : (j : ℕ) → j < cols → (nodes : List (List Node)) → Nodup nodes → ((l : List Node) → Mem l nodes → TreeNode G (j * lift) (target / 2 - 1) l) → places < length nodes
+      → WorkRow G cols lift target places 26 []
 
 -- ROWS TOGETHER, and the lowest number that applies.
 infixl 1 _or_

@@ -5,8 +5,11 @@ use mathlib.Core.Path.{_≡_, refl, ap, _∙_}
 use mathlib.Core.List.{List}
 use native.Mathlib.Omega.{arith}
 use lib.ListN.{length}
+use Rattle.treetest.specs.declared.Verdict.{Verdict}
+use Rattle.treetest.specs.declared.Verdict.the-variants.{Passed, NotPassed, Refused}
+use Rattle.treetest.specs.Answer as pairs
 use Rattle.qcldpc.specs.declared.reply.Reply.{Reply}
-use Rattle.qcldpc.specs.Door.{Given, given, gives, Replies, Leaves}
+use Rattle.qcldpc.specs.Door.{Given, given, gives, verdictReply, Replies, Leaves, KeptUnless0}
 
 module _ {A : Type 0} {Right : A → Type 0} {reply : A → List ℕ → Given} {out : List ℕ} where
   pub no-room : length out < 32 → Replies A Right reply out (2 ^ 64 - 1) out
@@ -28,3 +31,12 @@ module _ {A : Type 0} {out : List ℕ} {want lent : List A} where
 
   pub changed : {left : List A} → 32 ≤ length out → left ≡ want → Leaves out want lent left
   changed r e = record { small = λ h. let z : ⊥ = omega arith in absurd z; large = λ _. e }
+
+-- a verdict returns 0, and a refusal leaves the work list
+pub kept-work : {lent left : List ℕ} {code : ℕ} (out : List ℕ) (v : Verdict) → pairs.Leaves lent left v → (r : Reply) → r ≡ verdictReply v → code ≡ given r out .code → KeptUnless0 code lent left
+kept-work out v l r e c = go v l (c ∙ ap (λ (x : Reply). given x out .code) e)
+  where
+    go : {lent left : List ℕ} {code : ℕ} (v : Verdict) → pairs.Leaves lent left v → code ≡ given (verdictReply v) out .code → KeptUnless0 code lent left
+    go Passed l c = λ n. absurd (n c)
+    go NotPassed l c = λ n. absurd (n c)
+    go (Refused x) l c = λ n. l

@@ -2,6 +2,7 @@
 -- With fewer than 32 places in `out` it returns 2^64 − 1 and does nothing else. Places not named are left alone.
 use Prim.Native.Nat.{ℕ, _-_, _^_, _≤_, _<_}
 use mathlib.Core.Path.{_≡_}
+use mathlib.Core.Logic.{_≢_}
 use mathlib.Core.List.{List, [], _∷_}
 use lib.ListN.{length}
 use lib.Seq.{sets}
@@ -12,6 +13,8 @@ use Rattle.exponent.specs.declared.Validity.the-variants.{Valid, Refused}
 use Rattle.girth.specs.declared.GirthTest.{GirthTest}
 use Rattle.girth.specs.declared.Outcome.{Outcome}
 use Rattle.girth.specs.declared.Outcome.the-variants.{Passed, Failed}
+use Rattle.treetest.specs.declared.Verdict.{Verdict}
+use Rattle.treetest.specs.declared.Verdict.the-variants as verdict
 use Rattle.syndrome.specs.declared.Syndrome.{Syndrome}
 use Rattle.syndrome.specs.declared.Syndrome.the-variants.{Even, Odd, Refused as NotChecked}
 use Rattle.peeling.specs.declared.Filling.{Filling}
@@ -61,6 +64,12 @@ given (Two a b) out = record { code = 0; out = sets out 0 (a ∷ b ∷ []) }
 abbrev pub checkReply : Validity → Reply
 checkReply Valid = Nothing
 checkReply (Refused r) = Refuses r
+
+-- the girth test by sorted pairs: 0 where the plan passes, else 1
+abbrev pub verdictReply : Verdict → Reply
+verdictReply verdict.Passed = One 0
+verdictReply verdict.NotPassed = One 1
+verdictReply (verdict.Refused r) = Refuses r
 
 -- the decoder: how many erasures were filled, and how many are left
 abbrev pub fillReply : Filling → Reply
@@ -115,3 +124,7 @@ pub record Replies (A : Type 0) (Right : A → Type 0) (reply : A → List ℕ �
 pub record Leaves {A : Type 0} (out : List ℕ) (want lent left : List A) : Type 0 where
   pub small : length out < 32 → left ≡ lent
   pub large : 32 ≤ length out → left ≡ want
+
+-- a work list: as lent, unless the call returns 0
+abbrev pub KeptUnless0 : ℕ → List ℕ → List ℕ → Type 0
+KeptUnless0 code lent left = code ≢ 0 → left ≡ lent

@@ -9,6 +9,8 @@ ghost use Rattle.exponent.specs.declared.Validity.{Validity};
 ghost use Rattle.exponent.specs.Limits.{planRules, validity};
 ghost use Rattle.girth.specs.declared.GirthTest.{GirthTest};
 ghost use Rattle.girth.specs.Test.{Answer};
+ghost use Rattle.treetest.specs.declared.Verdict.{Verdict};
+ghost use Rattle.treetest.specs.Answer as pairs;
 ghost use Rattle.syndrome.specs.declared.Syndrome.{Syndrome};
 ghost use Rattle.syndrome.specs.Check.{syndromeOf};
 ghost use Rattle.peeling.specs.declared.Filling.{Filling};
@@ -28,7 +30,7 @@ ghost use Rattle.alist.specs.declared.Written.{Written};
 ghost use Rattle.alist.specs.declared.Comparison.{Comparison};
 ghost use Rattle.alist.specs.Calls.{alistText, writeRules, written, laid, compareRules, comparison};
 ghost use Rattle.qcldpc.specs.declared.reply.Reply.the-variants.{One};
-ghost use Rattle.qcldpc.specs.Door.{Replies, Leaves, gives, checkReply, girthReply, fillReply, syndromeReply, builtReply, suppliedReply, writtenReply, comparedReply, changedReply};
+ghost use Rattle.qcldpc.specs.Door.{Replies, Leaves, KeptUnless0, gives, checkReply, girthReply, verdictReply, fillReply, syndromeReply, builtReply, suppliedReply, writtenReply, comparedReply, changedReply};
 use square::supply::Family;
 use weights::change;
 
@@ -83,6 +85,35 @@ pub extern "C" fn qcldpc_girth(
         target as usize,
     );
     reply::tested(t, out)
+}
+
+// The girth test by sorted pairs, over a lent work list: out[0] is 0 where the plan passes, else 1.
+#[no_mangle]
+pub extern "C" fn qcldpc_girth_pairs(
+    plan: &[i16],
+    rows: u64,
+    cols: u64,
+    lift: u64,
+    target: u64,
+    work: &mut [u64],
+    out: &mut [u64],
+) -> u64
+    ensures answers { λ r. ⌜ Replies Verdict (pairs.Answer (now (plan .entry)) rows cols lift target (length (now (work .entry)))) (gives verdictReply) (now (out .entry)) r (now (out .exit)) ⌝ }
+    ensures leaves { λ r. ⌜ KeptUnless0 r (now (work .entry)) (now (work .exit)) ⌝ }
+{
+    if out.len() < PLACES {
+        return NO_ROOM;
+    }
+    let v = treetest::test(
+        plan,
+        rows as usize,
+        cols as usize,
+        lift as usize,
+        target as usize,
+        work,
+    );
+    let r = reply::judged(v);
+    reply::give(r, out)
 }
 
 // The decoder: out[0] erasures were filled, out[1] are left.

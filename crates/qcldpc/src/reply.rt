@@ -9,12 +9,13 @@ use refusal::numbers;
 use syndrome::Syndrome;
 use table::Built;
 use table::Supplied;
+use treetest::Verdict;
 use weights::change::Changed;
 ghost use mathlib.Core.Path.{_≡_};
 ghost use Prim.Native.Nat.{_+_, _≤_};
 ghost use lib.ListN.{length};
 ghost use lib.Seq.{sets};
-ghost use Rattle.qcldpc.specs.Door.{refusal, given, checkReply, witnessReply, girthReply, fillReply, syndromeReply, builtReply, suppliedReply, writtenReply, comparedReply, changedReply};
+ghost use Rattle.qcldpc.specs.Door.{refusal, given, checkReply, witnessReply, girthReply, verdictReply, fillReply, syndromeReply, builtReply, suppliedReply, writtenReply, comparedReply, changedReply};
 
 // What an answer comes to: a refusal; or no number, one or two for the first places of `out`.
 pub enum Reply {
@@ -105,6 +106,17 @@ pub fn checked(v: Validity) -> Reply
     match v {
         Validity::Valid => Reply::Nothing,
         Validity::Refused(r) => Reply::Refused(r),
+    }
+}
+
+// The girth test by sorted pairs: 0 where the plan passes, else 1.
+pub fn judged(v: Verdict) -> Reply
+    ensures { λ r. ⌜ r ≡ verdictReply v ⌝ }
+{
+    match v {
+        Verdict::Passed => Reply::One(0),
+        Verdict::NotPassed => Reply::One(1),
+        Verdict::Refused(r) => Reply::Refused(r),
     }
 }
 

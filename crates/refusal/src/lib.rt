@@ -42,4 +42,6 @@ pub enum Refusal {
     // 24 and 25: the designer who changes a block, and lends lists of weights.
     BlockPlace,
     Weights,
+    // 26: the caller who lends a work list.
+    WorkPlace,
 }

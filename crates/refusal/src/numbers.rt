@@ -40,6 +40,7 @@ pub fn number_of(r: Refusal) -> u64
         Refusal::SteinerLength => 23,
         Refusal::BlockPlace => 24,
         Refusal::Weights => 25,
+        Refusal::WorkPlace => 26,
     }
 }
 

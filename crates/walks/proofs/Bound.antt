@@ -10,10 +10,9 @@ use native.Mathlib.Omega.{arith}
 use native.Mathlib.Nat.{suc-mul, add-mul, mul-assoc, mul-le-mul-right}
 use lib.IntN.{ℤ}
 use lib.ListN.{length}
-use Rattle.graph.specs.Count.{Mem}
+use Rattle.graph.specs.Count.{Mem, Nodup}
 use Rattle.graph.specs.Girth.{Passes}
 use Rattle.graph.proofs.Ends.{Reached}
-use Rattle.graph.proofs.Lists.{Nodup}
 use Rattle.exponent.specs.declared.Shape.{Shape}
 use Rattle.exponent.specs.Tanner.{graphOf}
 use Rattle.walks.specs.Steps.{Blocks, blocksOf}

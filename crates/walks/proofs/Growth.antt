@@ -4,7 +4,7 @@ use mathlib.Core.Bool.{Bool, true, false, cond}
 use mathlib.Core.List.{List, _∷_, _++_}
 use native.Mathlib.Omega.{arith}
 use lib.ListN.{length, length-append, length-map}
-use Rattle.graph.proofs.Walks.{Node}
+use Rattle.graph.specs.Walks.{Node}
 use Rattle.exponent.specs.declared.position.Position.{Position}
 use Rattle.walks.specs.declared.Corner.{Corner}
 use Rattle.walks.specs.declared.Step.{Step}

@@ -5,17 +5,16 @@ use mathlib.Core.Bool.{Bool, true, false}
 use mathlib.Core.List.{List, [], _∷_, map}
 use native.Mathlib.Omega.{arith}
 use lib.ListN.{length}
-use Rattle.graph.specs.Count.{Mem}
-use Rattle.graph.proofs.Lists.{Nodup, each-image, nodup-image}
-use Rattle.graph.proofs.Walks.{Node, check, bit}
+use Rattle.graph.specs.Count.{Mem, Nodup}
+use Rattle.graph.proofs.Lists.{each-image, nodup-image}
+use Rattle.graph.specs.Walks.{Node, check, bit}
 use Rattle.exponent.specs.declared.position.Position.{Position}
 use Rattle.walks.specs.declared.Corner.{Corner}
 use Rattle.walks.specs.declared.Step.{Step}
 use Rattle.walks.specs.declared.Step.the-variants.{Stay, To}
 use Rattle.walks.specs.Steps.{Blocks, toColumn, toRow}
 use Rattle.walks.specs.Ways.{each, corner, rootBit, rootCheck}
-use Rattle.walks.proofs.Ways.{mem-each}
-use Rattle.walks.proofs.Repeats.{nodup-each}
+use Rattle.walks.proofs.Each.{mem-each, nodup-each}
 
 -- THE WALKS, each as its vertices after the first
 

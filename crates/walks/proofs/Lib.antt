@@ -2,6 +2,7 @@ pub mod Cases
 pub mod Link
 pub mod OneRow
 pub mod Nodes
+pub mod Each
 pub mod Ways
 pub mod Repeats
 pub mod Answers

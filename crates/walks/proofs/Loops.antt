@@ -1,16 +1,16 @@
 -- The laws of a search loop: what is left of its ways, where a turn stays, steps on or meets, and where it may skip.
 -- Assumes nothing.
-use Prim.Native.Nat.{ℕ, zero, suc, _+_, _-_, _≤_, _<_}
-use mathlib.Core.Path.{_≡_, refl, sym, ap, subst, _∙_}
+use Prim.Native.Nat.{ℕ, _+_, _-_, _≤_, _<_}
+use mathlib.Core.Path.{_≡_, refl, sym, ap, _∙_}
 use mathlib.Core.Bool.{Bool, true, false, cond}
 use mathlib.Core.List.{List, [], _∷_, _++_, map}
 use mathlib.Core.Option.{none, some}
 use native.Mathlib.Omega.{arith}
-use native.Mathlib.Numerals.{add-one}
 use borrow.Author.Tests.{eq-eqb, ne-eqb}
 use lib.Dec.{eqb}
 use lib.ListN.{set, getD}
 use Rattle.exponent.specs.declared.position.Position.{Position}
+use Rattle.index.specs.Index.{NextFrom}
 use Rattle.walks.specs.declared.Step.{Step}
 use Rattle.walks.specs.declared.Step.the-variants.{Stay, To}
 use Rattle.walks.specs.declared.trail.Found.{Found}
@@ -20,6 +20,7 @@ use Rattle.walks.specs.Ways.{Joint, Way, more, andThen, each}
 use Rattle.walks.specs.Meeting.{Result}
 use Rattle.walks.specs.Trail.{lay, push, noTrail, trail, found}
 use Rattle.walks.specs.Stamps.{Run, scan, Ran}
+use Rattle.walks.proofs.Each.{each-turn, each-end, steps-skip}
 
 -- What the code shows of a result.
 
@@ -42,14 +43,6 @@ ran-shown e h = record { shown = sym e ∙ h .shown; left = h .left }
 
 pub ran-same : {stamp : ℕ} {l : List Way} {before after after′ : List ℕ} {r r′ : Found} → r′ ≡ r → after′ ≡ after → Ran stamp l before r after → Ran stamp l before r′ after′
 ran-same p q h = record { shown = p ∙ h .shown; left = q ∙ h .left }
-
--- A range, one turn on, and at its end.
-
-pub one-less : (n i : ℕ) → i < n → n - i ≡ suc (n - (i + 1))
-one-less n i h = omega arith
-
-pub none-left : (n i : ℕ) → n ≤ i → n - i ≡ 0
-none-left n i h = omega arith
 
 -- A run over more ways: what it met stays met, and else it goes on with the stamps that it has left.
 
@@ -125,11 +118,7 @@ module _ {stamp : ℕ} {whole : List Way} {seen₀ : List ℕ} {step : ℕ → S
   rest = each (λ k. andThen (step k) next) (n - (i + 1)) (i + 1)
 
   turn : i < n → scan stamp whole seen₀ ≡ scan stamp (andThen (step i) next ++ rest) seen
-  unfolding each
-  turn h =
-      left .same
-      ∙ ap (λ (k : ℕ). scan stamp (each (λ k. andThen (step k) next) k i) seen) (one-less n i h)
-      ∙ ap (λ (k : ℕ). scan stamp (andThen (step i) next ++ each (λ k. andThen (step k) next) (n - (i + 1)) k) seen) (sym (add-one i))
+  turn h = left .same ∙ ap (λ (l : List Way). scan stamp l seen) (each-turn (λ k. andThen (step k) next) n i h)
 
   -- the step is not taken
   pub left-stay : i < n → step i ≡ Stay → Left stamp whole seen₀ step next n (i + 1) seen
@@ -157,15 +146,11 @@ module _ {stamp : ℕ} {whole : List Way} {seen₀ : List ℕ} {step : ℕ → S
 
   -- the range has an end
   pub left-end : n ≤ i → Ran stamp whole seen₀ Nothing seen
-  unfolding each scan
+  unfolding scan
   left-end h =
-      let same = left .same ∙ ap (λ (k : ℕ). scan stamp (each (λ k. andThen (step k) next) k i) seen) (none-left n i h) in
+      let same = left .same ∙ ap (λ (l : List Way). scan stamp l seen) (each-end (λ k. andThen (step k) next) n i h) in
       record { shown = sym (ap (λ (x : Run). found (x .hit)) same); left = sym (ap (λ (x : Run). x .seen) same) }
 
--- Where no step is taken from i to m − 1, the search goes on at m.
-module _ {stamp : ℕ} {whole : List Way} {seen₀ : List ℕ} {step : ℕ → Step} {next : Position → List Way} {n : ℕ} {seen : List ℕ} where
-  pub skip-by : (d i : ℕ) → i + d ≤ n → ((k : ℕ) → i ≤ k → k < i + d → step k ≡ Stay) → Left stamp whole seen₀ step next n i seen → Left stamp whole seen₀ step next n (i + d) seen
-  skip-by zero i h e l = subst (λ (k : ℕ). Left stamp whole seen₀ step next n k seen) (let z : i ≡ i + 0 = omega arith in z) l
-  skip-by (suc d) i h e l =
-      subst (λ (k : ℕ). Left stamp whole seen₀ step next n k seen) (let z : i + 1 + d ≡ i + suc d = omega arith in z)
-      (skip-by d (i + 1) (omega arith) (λ k a b. e k (omega arith) (omega arith)) (left-stay l (omega arith) (e i (omega arith) (omega arith))))
+  -- where an index skips, no step is taken
+  pub left-skip : {test : ℕ → Bool} {m : ℕ} → NextFrom test i n m → ((k : ℕ) → test k ≡ false → step k ≡ Stay) → Left stamp whole seen₀ step next n m seen
+  left-skip f stay = record { same = left .same ∙ ap (λ (l : List Way). scan stamp l seen) (steps-skip step next f stay) }

@@ -12,7 +12,7 @@ use Rattle.graph.specs.Count.{Mem}
 use Rattle.graph.specs.Graph.{Bipartite}
 use Rattle.graph.proofs.Decide.{by-eq}
 use Rattle.graph.proofs.Lists.{last, least-of, mem-image, each-image}
-use Rattle.graph.proofs.Walks.{Node, check, bit, Adj, Walk}
+use Rattle.graph.specs.Walks.{Node, check, bit, Adj, Walk}
 use Rattle.graph.specs.Girth.{SimpleCycle, Passes}
 use Rattle.graph.proofs.Closed.{weave, weave-check, weave-bit, bit-weave, check-weave}
 use Rattle.graph.proofs.Meeting.{Meeting, cycle-meets}

@@ -11,12 +11,12 @@ use borrow.Author.Tests.{eqb-true, eqb-false}
 use lib.Dec.{eqb}
 use lib.IntN.{ℤ}
 use lib.ListN.{length}
-use Rattle.graph.specs.Count.{Mem}
+use Rattle.graph.specs.Count.{Mem, Nodup}
 use Rattle.graph.specs.Graph.{Bipartite}
 use Rattle.graph.specs.Girth.{Passes}
 use Rattle.graph.proofs.Ends.{Reached, few-walks}
-use Rattle.graph.proofs.Lists.{Nodup}
-use Rattle.graph.proofs.Walks.{Node, check, bit, check-inj, bit-inj, Adj, Apart, Walk}
+use Rattle.graph.specs.Walks.{Node, check, bit, Adj, Apart, Walk}
+use Rattle.graph.proofs.Walks.{check-inj, bit-inj}
 use Rattle.exponent.specs.declared.position.Position.{Position}
 use Rattle.exponent.specs.declared.Shape.{Shape}
 use Rattle.exponent.specs.Plan.{blockAt}
@@ -30,7 +30,7 @@ use Rattle.walks.proofs.Inner.{over-step, checkAt, bitAt, innerCheck, i
 use Rattle.walks.proofs.Link.{at-0, checkFrom, bitFrom, step-bit, step-check, root-bit, root-check}
 use Rattle.walks.proofs.Roots.{rootOf}
 use Rattle.walks.proofs.Steps.{lands}
-use Rattle.walks.proofs.Ways.{mem-each}
+use Rattle.walks.proofs.Each.{mem-each}
 
 -- the row, or the column, of a vertex
 abbrev block : ℕ → Node → ℕ

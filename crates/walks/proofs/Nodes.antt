@@ -5,7 +5,7 @@ use mathlib.Core.List.{List, [], _∷_, map, reverseAux}
 use native.Mathlib.Omega.{arith}
 use lib.ListN.{length}
 use Rattle.graph.proofs.Lists.{last}
-use Rattle.graph.proofs.Walks.{Node, check, bit}
+use Rattle.graph.specs.Walks.{Node, check, bit}
 use Rattle.graph.proofs.Cycles.{numbers, checks-of, bits-of}
 use Rattle.walks.specs.Ways.{Joint}
 use Rattle.walks.specs.Meeting.{backAlong, backToCheck}

@@ -6,14 +6,13 @@ use mathlib.Core.Logic.{_⊎_, _≢_, inl, inr}
 use mathlib.Core.Bool.{Bool, true, false, cond, _||_}
 use mathlib.Core.List.{List, [], _∷_, map}
 use mathlib.Core.Option.{none, some, Option·none-ne-some}
-use native.Mathlib.Omega.{arith}
 use native.Mathlib.Nat.{mod-lt}
 use lib.Dec.{eqb}
 use lib.IntN.{ℤ}
-use Rattle.graph.specs.Count.{Mem, member}
+use Rattle.graph.specs.Count.{Mem, member, Nodup}
 use Rattle.graph.proofs.Count.{member-mem, mem-member}
 use Rattle.graph.proofs.Decide.{both-ways}
-use Rattle.graph.proofs.Lists.{Nodup, nodup-append, each-image, nodup-image}
+use Rattle.graph.proofs.Lists.{each-image, nodup-image}
 use Rattle.exponent.specs.declared.position.Position.{Position}
 use Rattle.exponent.specs.declared.Shape.{Shape}
 use Rattle.exponent.specs.Plan.{blockAt}
@@ -23,10 +22,10 @@ use Rattle.walks.specs.declared.Corner.{Corner}
 use Rattle.walks.specs.declared.Step.{Step}
 use Rattle.walks.specs.declared.Step.the-variants.{Stay, To}
 use Rattle.walks.specs.Steps.{Blocks, blocksOf, toColumn, toRow}
-use Rattle.walks.specs.Ways.{Joint, Way, more, andThen, each, joint, fromCheck, fromBit}
+use Rattle.walks.specs.Ways.{Joint, Way, more, andThen, joint, fromCheck, fromBit}
 use Rattle.walks.specs.Meeting.{Result, repeat}
 use Rattle.walks.proofs.Steps.{lands}
-use Rattle.walks.proofs.Ways.{mem-each}
+use Rattle.walks.proofs.Each.{mem-each, nodup-each, nodup-then}
 
 -- THE FIRST REPEAT
 
@@ -120,17 +119,6 @@ abbrev first-bit : ℕ → List Joint → ℕ
 first-bit lift [] = 0
 first-bit lift (e ∷ l) = e .bit / lift
 
-pub nodup-each : {A : Type 0} (f : ℕ → List A) (key : A → ℕ) → ((j : ℕ) → Nodup (f j)) → ((j : ℕ) (w : A) → Mem w (f j) → key w ≡ j) → (k i : ℕ) → Nodup (each f k i)
-unfolding each
-nodup-each f key d h zero i = tt
-nodup-each f key d h (suc k) i =
-    nodup-append (f i) (each f k (suc i)) (d i) (nodup-each f key d h k (suc i))
-    (λ w a b. let (j, p, q, m) = mem-each f k (suc i) w b in omega (arith, h i w a, h j w m))
-
-nodup-then : (t : Step) (next : Position → List Way) → ((q : Position) → Nodup (next q)) → Nodup (andThen t next)
-nodup-then Stay next d = tt
-nodup-then (To q) next d = d q
-
 same-more : (e : Joint) (w v : Way) → more e w ≡ more e v → w ≡ v
 same-more e w v h =
     let k : e ∷ w .joints ≡ e ∷ v .joints = ap (λ (y : Way). y .joints) h in
@@ -174,7 +162,7 @@ module _ (plan : List ℤ) (s : Shape) (some-lift : 0 < s .lift) (κ : Corner) w
   distinct-check : (d : ℕ) → ((p : Position) → Nodup (fromBit B κ d p)) → (p : Position) → Nodup (fromCheck B κ (fromBit B κ d) p)
   distinct-check d h p =
       nodup-each (λ j. andThen (toColumn B p j) (λ q. map (more (joint B p q)) (fromBit B κ d q))) (λ w. first-bit (s .lift) (w .joints))
-      (λ j. nodup-then (toColumn B p j) (λ q. map (more (joint B p q)) (fromBit B κ d q)) (λ q. nodup-more (joint B p q) (fromBit B κ d q) (h q)))
+      (λ j. nodup-then (toColumn B p j) (λ q. map (more (joint B p q)) (fromBit B κ d q)) (λ q e. nodup-more (joint B p q) (fromBit B κ d q) (h q)))
       (column-key (fromBit B κ d) p) (s .cols - κ .col) (κ .col)
 
   pub distinct-bits : (d : ℕ) (p : Position) → Nodup (fromBit (blocksOf plan s) κ d p)
@@ -182,7 +170,7 @@ module _ (plan : List ℤ) (s : Shape) (some-lift : 0 < s .lift) (κ : Corner) w
   distinct-bits zero p = (λ m. m, tt)
   distinct-bits (suc d) p =
       nodup-each (λ i. andThen (toRow B p i) (fromCheck B κ (fromBit B κ d))) (λ w. first-check (s .lift) (w .joints))
-      (λ i. nodup-then (toRow B p i) (fromCheck B κ (fromBit B κ d)) (distinct-check d (distinct-bits d))) (row-key d p) (s .rows - κ .row) (κ .row)
+      (λ i. nodup-then (toRow B p i) (fromCheck B κ (fromBit B κ d)) (λ q e. distinct-check d (distinct-bits d) q)) (row-key d p) (s .rows - κ .row) (κ .row)
 
   pub distinct-checks : (d : ℕ) (p : Position) → Nodup (fromCheck (blocksOf plan s) κ (fromBit (blocksOf plan s) κ d) p)
   distinct-checks d = distinct-check d (distinct-bits d)

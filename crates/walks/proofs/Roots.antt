@@ -8,11 +8,11 @@ use native.Mathlib.Omega.{arith}
 use borrow.Author.Tests.{eq-eqb, ne-eqb}
 use lib.IntN.{ℤ}
 use lib.ListN.{length}
-use Rattle.graph.specs.Count.{Mem}
+use Rattle.graph.specs.Count.{Mem, Nodup}
 use Rattle.graph.specs.Graph.{Bipartite}
 use Rattle.graph.proofs.Decide.{by-eq}
-use Rattle.graph.proofs.Lists.{last, Nodup}
-use Rattle.graph.proofs.Walks.{Node, check, bit, Adj, Walk}
+use Rattle.graph.proofs.Lists.{last}
+use Rattle.graph.specs.Walks.{Node, check, bit, Adj, Walk}
 use Rattle.exponent.specs.declared.Shape.{Shape}
 use Rattle.exponent.specs.Tanner.{graphOf, tanner}
 use Rattle.exponent.proofs.Numbers.{number-low}

@@ -21,7 +21,8 @@ use Rattle.walks.specs.Ways.{Joint, Way, corner, fromCheck, fromBit, roo
 use Rattle.walks.specs.Meeting.{Result, repeat, join, with-way, meeting, orElse, firstOf}
 use Rattle.walks.specs.Trail.{places, lay, trail, found, joinTrail}
 use Rattle.walks.specs.Stamps.{scan, Ran, Below}
-use Rattle.walks.proofs.Loops.{found-none, found-some, one-less, none-left}
+use Rattle.walks.proofs.Each.{one-less, none-left}
+use Rattle.walks.proofs.Loops.{found-none, found-some}
 use Rattle.walks.proofs.Repeats.{some-mem}
 use Rattle.walks.proofs.Roots.{way-of}
 use Rattle.walks.proofs.Stamps.{marks-none, marks-one, scan-repeat, scan-below, below-set, below-more, join-lay}

@@ -8,10 +8,9 @@ use mathlib.Core.List.{List, [], _∷_, _++_, map}
 use mathlib.Core.Option.{none, some}
 use native.Mathlib.Omega.{arith}
 use lib.ListN.{length}
-use Rattle.graph.specs.Count.{Mem, member}
+use Rattle.graph.specs.Count.{Mem, member, Nodup}
 use Rattle.graph.proofs.Count.{mem-member}
 use Rattle.graph.proofs.Decide.{by-bool, both-ways}
-use Rattle.graph.proofs.Lists.{Nodup}
 use Rattle.exponent.specs.declared.position.Position.{Position}
 use Rattle.walks.specs.declared.Corner.{Corner}
 use Rattle.walks.specs.declared.Step.{Step}

@@ -1,5 +1,5 @@
 -- The ways of the search are the walks of the Tanner graph that never step back. Assumes nothing.
-use Prim.Native.Nat.{ℕ, zero, suc, _+_, _-_, _*_, _/_, _≤_, _<_}
+use Prim.Native.Nat.{ℕ, zero, suc, _-_, _*_, _/_, _≤_, _<_}
 use mathlib.Core.Path.{_≡_, refl, sym, ap, ap₂, subst, _∙_}
 use mathlib.Core.Logic.{_≢_, inl, inr}
 use mathlib.Core.List.{List, [], _∷_, map}
@@ -9,44 +9,18 @@ use lib.IntN.{ℤ}
 use lib.ListN.{length}
 use Rattle.graph.specs.Count.{Mem}
 use Rattle.graph.specs.Graph.{Bipartite, Joined}
-use Rattle.graph.proofs.Decide.{by-eq}
-use Rattle.graph.proofs.Lists.{last, mem-left, mem-right, mem-append, mem-image, each-image}
-use Rattle.graph.proofs.Walks.{Node, check, bit, check-inj, bit-inj, Adj, Apart, Walk}
+use Rattle.graph.proofs.Lists.{last, mem-image, each-image}
+use Rattle.graph.specs.Walks.{Node, check, bit, Adj, Apart, Walk}
+use Rattle.graph.proofs.Walks.{check-inj, bit-inj}
 use Rattle.exponent.specs.declared.position.Position.{Position}
 use Rattle.exponent.specs.declared.Shape.{Shape}
 use Rattle.exponent.specs.Tanner.{graphOf}
 use Rattle.walks.specs.declared.Corner.{Corner}
-use Rattle.walks.specs.declared.Step.{Step}
-use Rattle.walks.specs.declared.Step.the-variants.{Stay, To}
 use Rattle.walks.specs.Steps.{Blocks, blocksOf, toColumn, toRow}
-use Rattle.walks.specs.Ways.{Joint, Way, more, andThen, each, joint, arrived, fromCheck, fromBit}
+use Rattle.walks.specs.Ways.{Joint, Way, more, andThen, joint, arrived, fromCheck, fromBit}
+use Rattle.walks.proofs.Each.{mem-each, each-mem, mem-then, then-mem}
 use Rattle.walks.proofs.Nodes.{nodes}
 use Rattle.walks.proofs.Link.{checkFrom, bitFrom, edge-over, same-bit, same-check, step-bit, step-check, bit-step, check-step}
-
--- LISTS OF WAYS: what is in them
-
-pub mem-each : {A : Type 0} (f : ℕ → List A) (k i : ℕ) (w : A) → Mem w (each f k i) → (j : ℕ) × (i ≤ j) × (j < i + k) × Mem w (f j)
-unfolding each
-mem-each f zero i w m = absurd m
-mem-each f (suc k) i w m =
-    elim (mem-append w (f i) (each f k (suc i)) m) [
-      | inl h ↦ (i, omega arith, omega arith, h)
-      | inr h ↦ let (j, p, q, a) = mem-each f k (suc i) w h in (j, omega arith, omega arith, a)
-    ]
-
-pub each-mem : {A : Type 0} (f : ℕ → List A) (k i j : ℕ) (w : A) → i ≤ j → j < i + k → Mem w (f j) → Mem w (each f k i)
-unfolding each
-each-mem f zero i j w p q m = absurd (let z : ⊥ = omega arith in z)
-each-mem f (suc k) i j w p q m =
-    by-eq i j (λ e. mem-left w (f i) (each f k (suc i)) (subst (λ (x : ℕ). Mem w (f x)) (sym e) m))
-    (λ d. mem-right w (f i) (each f k (suc i)) (each-mem f k (suc i) j w (omega arith) (omega arith) m))
-
-mem-then : (s : Step) (next : Position → List Way) (w : Way) → Mem w (andThen s next) → (q : Position) × (s ≡ To q) × Mem w (next q)
-mem-then Stay next w m = absurd m
-mem-then (To q) next w m = (q, refl, m)
-
-then-mem : (s : Step) (next : Position → List Way) (q : Position) (w : Way) → s ≡ To q → Mem w (next q) → Mem w (andThen s next)
-then-mem s next q w e m = rw e m
 
 mem-more : (e : Joint) (l : List Way) (w : Way) → Mem w (map (more e) l) → (v : Way) × Mem v l × (w ≡ more e v)
 mem-more e l w m = each-image (more e) (λ x. (v : Way) × Mem v l × (x ≡ more e v)) l (λ v h. (v, h, refl)) w m

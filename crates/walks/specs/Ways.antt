@@ -23,7 +23,8 @@ pub record Way : Type 0 where
 abbrev pub more : Joint → Way → Way
 more e w = record { joints = e ∷ w .joints; end = w .end }
 
-abbrev pub andThen : Step → (Position → List Way) → List Way
+-- what a step leads to
+abbrev pub andThen : {A : Type 0} → Step → (Position → List A) → List A
 andThen Stay f = []
 andThen (To p) f = f p
 

@@ -27,7 +27,7 @@ pub struct Corner {
 }
 
 // The number of a check or a bit.
-fn number(index: usize, lift: usize, voltage: usize) -> usize
+pub fn number(index: usize, lift: usize, voltage: usize) -> usize
     requires { ⌜ (index < 512) × (lift ≤ 4096) × (voltage < lift) ⌝ }
     ensures { λ r. ⌜ r ≡ index * lift + voltage ⌝ }
 {
@@ -35,7 +35,7 @@ fn number(index: usize, lift: usize, voltage: usize) -> usize
 }
 
 // From a check to its bit in another column.
-fn to_column(plan: &[i16], shape: Shape, p: Position, col: usize) -> Step
+pub fn to_column(plan: &[i16], shape: Shape, p: Position, col: usize) -> Step
     requires { ⌜ AtCheck (now plan) shape p × (col < shape .cols) ⌝ }
     ensures { λ r. ⌜ r ≡ toColumn (blocksOf (now (plan .entry)) shape) p col ⌝ }
 {
@@ -51,7 +51,7 @@ fn to_column(plan: &[i16], shape: Shape, p: Position, col: usize) -> Step
 }
 
 // From a bit to its check in another row.
-fn to_row(plan: &[i16], shape: Shape, p: Position, row: usize) -> Step
+pub fn to_row(plan: &[i16], shape: Shape, p: Position, row: usize) -> Step
     requires { ⌜ AtBit (now plan) shape p × (row < shape .rows) ⌝ }
     ensures { λ r. ⌜ r ≡ toRow (blocksOf (now (plan .entry)) shape) p row ⌝ }
 {

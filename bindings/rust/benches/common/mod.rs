@@ -1,7 +1,7 @@
-//! What the benchmarks share: table plans, what the references do with a plan, numbers, and the clock.
+//! What the benchmarks share: table and Steiner plans, what the references do with a plan, numbers, and the clock.
 #![allow(dead_code)] // each benchmark uses a part
 pub use qcldpc::OwnedPlan;
-use qcldpc::Plan;
+use qcldpc::{Girth, Plan};
 use std::hint::black_box;
 use std::time::{Duration, Instant};
 
@@ -22,6 +22,37 @@ pub fn printed(plan: &OwnedPlan) -> OwnedPlan {
     let Plan { entries, rows, cols, lift } = plan.lent();
     let above = |(k, &e): (usize, &i16)| if e < 0 { e } else { e + ((1 + k % 5) * lift) as i16 };
     plan_of(entries.iter().enumerate().map(above).collect(), rows, cols, lift)
+}
+
+/// The plan with its last filled block changed, so that it may fail.
+pub fn changed(plan: &OwnedPlan, by: i16) -> OwnedPlan {
+    let mut plan = plan.clone();
+    let last = plan.entries().iter().rposition(|&e| e >= 0).expect("a filled block");
+    let entry = plan.entries()[last] + by;
+    plan.change(last / plan.cols(), last % plan.cols(), entry).expect("a block of the plan");
+    plan
+}
+
+/// Whether the first columns of a plan, taken as a plan, pass at a target.
+pub fn first_columns_pass(plan: &OwnedPlan, cols: usize, target: usize) -> bool {
+    let entries = plan.entries().chunks_exact(plan.cols()).flat_map(|row| &row[..cols]).copied().collect();
+    let first = plan_of(entries, plan.rows(), cols, plan.lift());
+    qcldpc::girth(&first.lent(), target) == Ok(Girth::Passed)
+}
+
+/// A Steiner plan of order 19 that passes at 12: voltages are drawn column by column, those of a column until the columns so far
+/// pass.
+pub fn steiner_plan() -> OwnedPlan {
+    let (lift, cols) = (1000, 57);
+    let build = |voltages: &[i16]| OwnedPlan::steiner(19, lift, voltages).expect("voltages of the right number");
+    let mut sequence = Sequence(1);
+    let mut voltages = vec![0; 3 * cols];
+    let mut k = 0;
+    while k < cols {
+        voltages[3 * k..3 * k + 3].fill_with(|| (sequence.next() % lift as u64) as i16);
+        k += first_columns_pass(&build(&voltages), k + 1, 12) as usize;
+    }
+    build(&voltages)
 }
 
 /// Refusals 1 to 6, as a plain implementation finds them.
@@ -64,4 +95,21 @@ pub fn timed<T>(best: &mut Duration, run: impl FnOnce() -> T) -> T {
     let answer = black_box(run());
     *best = begin.elapsed().min(*best);
     answer
+}
+
+/// The median times of some runs, in seconds; each is run once in every turn.
+pub fn medians<R>(turns: usize, runs: &[R], mut run: impl FnMut(&R)) -> Vec<f64> {
+    let mut times = vec![vec![]; runs.len()];
+    for _ in 0..turns {
+        for (each, times) in runs.iter().zip(&mut times) {
+            let begin = Instant::now();
+            run(each);
+            times.push(begin.elapsed().as_secs_f64());
+        }
+    }
+    let median = |times: &mut Vec<f64>| {
+        times.sort_by(f64::total_cmp);
+        times[turns / 2]
+    };
+    times.iter_mut().map(median).collect()
 }

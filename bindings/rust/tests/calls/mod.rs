@@ -2,6 +2,7 @@
 //! stands on the heap, so that the stack is the call's own.
 mod builders;
 mod changes;
+mod pairs;
 mod plans;
 mod steiner;
 mod tables;
@@ -26,6 +27,7 @@ pub struct Function {
 pub const FUNCTIONS: &[Function] = &[
     Function { name: "qcldpc_check", largest: plans::check, refused: plans::check_refused },
     Function { name: "qcldpc_girth", largest: plans::girth, refused: plans::girth_refused },
+    Function { name: "qcldpc_girth_pairs", largest: pairs::girth_pairs, refused: pairs::girth_pairs_refused },
     Function { name: "qcldpc_syndrome", largest: words::syndrome, refused: words::syndrome_refused },
     Function { name: "qcldpc_fill", largest: words::fill, refused: words::fill_refused },
     Function { name: "qcldpc_preview", largest: words::preview, refused: words::preview_refused },

@@ -8,7 +8,7 @@ fn entries_of(rows: usize, cols: usize, entry: impl Fn(usize, usize) -> i16) -> 
     (0..rows * cols).map(|k| entry(k / cols, k % cols)).collect()
 }
 
-fn plan_of(rows: usize, cols: usize, lift: usize, entry: impl Fn(usize, usize) -> i16) -> OwnedPlan {
+pub fn plan_of(rows: usize, cols: usize, lift: usize, entry: impl Fn(usize, usize) -> i16) -> OwnedPlan {
     OwnedPlan::new(entries_of(rows, cols, entry), rows, cols, lift).expect("a good plan")
 }
 
@@ -32,8 +32,8 @@ pub fn largest() -> [OwnedPlan; 4] {
     [chain(192, 512, 128), chain(192, 16, 4096), full(1), tables::largest_plan()]
 }
 
-// The largest plan with blocks only in its last n rows and columns, around a cycle of 2n edges.
-fn ring(n: usize) -> OwnedPlan {
+/// The largest plan with blocks only in its last n rows and columns, around a cycle of 2n edges.
+pub fn ring(n: usize) -> OwnedPlan {
     plan_of(192, 512, 128, |i, j| match (i.checked_sub(192 - n), j.checked_sub(512 - n)) {
         (Some(i), Some(j)) if j == i || j == (i + 1) % n => 127,
         _ => -1,

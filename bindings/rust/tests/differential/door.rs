@@ -20,6 +20,15 @@ pub fn lend_numbers(content: &[i16]) -> Lent<i16> {
     Lent::new(content, AROUND as i16)
 }
 
+/// A work list: numbers that follow each other, so that no two of them are alike.
+pub fn some_work(places: usize) -> Vec<u64> {
+    (0..places as u64).map(|k| BEFORE + k).collect()
+}
+
+pub fn lend_work(content: &[u64]) -> Lent<u64> {
+    Lent::new(content, AROUND)
+}
+
 pub fn lend_places(Places { plan, weights }: &Places) -> LentPlaces {
     let lend = |list: &[u16]| Lent::new(list, AROUND as u16);
     LentPlaces { plan: lend_numbers(plan), rows: lend(&weights.rows), cols: lend(&weights.cols) }

@@ -7,8 +7,10 @@ mod door;
 mod fill;
 mod girth;
 mod inputs;
+mod judged;
 mod lent;
 mod owned;
+mod pairs;
 mod plans;
 mod promise;
 mod random;
@@ -27,6 +29,7 @@ use std::sync::LazyLock;
 
 static PLANS: LazyLock<Seen> = LazyLock::new(plans::compare_all);
 static GIRTH: LazyLock<Seen> = LazyLock::new(girth::compare_all);
+static PAIRS: LazyLock<Seen> = LazyLock::new(pairs::compare_all);
 static TABLES: LazyLock<Seen> = LazyLock::new(tables::compare_all);
 static STEINER: LazyLock<Seen> = LazyLock::new(steiner::compare_all);
 static CHANGES: LazyLock<Seen> = LazyLock::new(changes::compare_all);
@@ -44,6 +47,12 @@ fn plan_check() {
 #[test]
 fn girth_test() {
     println!("girth test: {}", *GIRTH);
+}
+
+#[test]
+fn girth_test_by_sorted_pairs() {
+    println!("girth test by sorted pairs: {}", *PAIRS);
+    assert_eq!(PAIRS.met(), [1, 2, 3, 4, 5, 6, 14, 26]);
 }
 
 #[test]
@@ -96,7 +105,7 @@ fn promise_3() {
 // The subjects above are run once each, whichever test asks first.
 #[test]
 fn every_refusal_was_met() {
-    let subjects = [&PLANS, &GIRTH, &TABLES, &STEINER, &CHANGES, &WORDS, &FILL, &ALIST];
+    let subjects = [&PLANS, &GIRTH, &PAIRS, &TABLES, &STEINER, &CHANGES, &WORDS, &FILL, &ALIST];
     for number in 1..=LAST {
         let times: usize = subjects.iter().map(|seen| seen.refusals(number)).sum();
         assert!(times > 0, "no input met refusal {number}");
@@ -106,7 +115,7 @@ fn every_refusal_was_met() {
 // Every subject that is given voltages meets many at or above the lift.
 #[test]
 fn printed_voltages_were_met() {
-    let plans = [&PLANS, &GIRTH, &CHANGES, &WORDS, &FILL, &ALIST].map(|seen| (seen, 10000));
+    let plans = [&PLANS, &GIRTH, &PAIRS, &CHANGES, &WORDS, &FILL, &ALIST].map(|seen| (seen, 10000));
     for (seen, least) in plans.into_iter().chain([(&STEINER, 1000), (&PROMISE, 500)]) {
         assert!(seen.printed > least, "only {} results with a voltage at or above the lift", seen.printed);
     }

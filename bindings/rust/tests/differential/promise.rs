@@ -10,7 +10,7 @@ use crate::reference::steiner::system;
 use crate::seen::Seen;
 use crate::tables::built_plans;
 use crate::words::{code, code_word};
-use crate::{cages, fill, girth, steiner, table_vi};
+use crate::{cages, fill, girth, pairs, steiner, table_vi};
 use qcldpc::{Fill, Plan};
 
 const BOUNDS: [(usize, usize); 7] = [(6, 3), (8, 5), (10, 9), (12, 13), (14, 21), (16, 29), (18, 45)];
@@ -63,9 +63,15 @@ fn lose_and_fill(random: &Random, plan: &Draft, n: usize, times: usize, seen: &m
     }
 }
 
+// The girth that the girth test tells; the test by sorted pairs agrees.
+fn girth_of(plan: &Draft) -> Option<usize> {
+    pairs::compare(&plan.lent(), &mut pairs::Met::default());
+    girth::compare(&plan.lent(), &mut Seen::default())
+}
+
 // As many lost bits as the plan's girth allows, which is tested too.
 fn lose_by_girth(random: &Random, plan: &Draft, times: usize, seen: &mut Seen) {
-    let girth = girth::compare(&plan.lent(), &mut Seen::default()).expect("a good plan");
+    let girth = girth_of(plan).expect("a good plan");
     let (_, n) = BOUNDS.into_iter().rfind(|(target, _)| *target <= girth).expect("the plan passes at 6");
     lose_and_fill(random, plan, n, times, seen);
 }
@@ -156,7 +162,7 @@ fn compare_cages(random: &Random, seen: &mut Seen) {
     let more = [(6, 1), (8, 1), (10, 1), (12, 1), (14, 3), (16, 1)];
     for (plan, (target, more)) in cages::plans().iter().zip(more) {
         let (_, n) = BOUNDS.into_iter().find(|bound| bound.0 == target).expect("a bound for each target");
-        assert_eq!((girth::compare(&plan.lent(), &mut Seen::default()), plan.bits()), (Some(target), n + more));
+        assert_eq!((girth_of(plan), plan.bits()), (Some(target), n + more));
         lose_and_fill(random, plan, n, 40, seen);
         let stuck = Fill { filled: 0, left: plan.bits() };
         assert_eq!(fill::compare(&plan.lent(), &vec![2; plan.bits()], seen), Some(stuck));

@@ -16,7 +16,7 @@ use Rattle.walks.specs.declared.trail.Found.the-variants.{Met}
 use Rattle.walks.specs.Steps.{Blocks, blocksOf, toColumn, toRow, AtCheck, AtBit}
 use Rattle.walks.specs.Ways.{Joint, joint, fromCheck, fromBit}
 use Rattle.walks.specs.Stamps.{Ran, Lists}
-use Rattle.walks.proofs.Loops.{left-stay, left-miss, left-hit, left-end, more-nothing, more-met, ran-shown, ran-same}
+use Rattle.walks.proofs.Loops.{left-stay, left-miss, left-hit, left-end, left-skip, more-nothing, more-met, ran-shown, ran-same}
 use Rattle.walks.proofs.Stamps.{same-lists}
 use Rattle.walks.proofs.Steps.{listed, to-bit, to-check, push-same, BitLeft, at-bit-left, CheckLeft, ends-at, at-check-left}
 use Rattle.walks.proofs.search.ends.Reads as ends-reads
@@ -24,7 +24,7 @@ use Rattle.walks.proofs.number.Reads as number-reads
 use Rattle.walks.proofs.to_column.Reads as to-column-reads
 use Rattle.walks.proofs.to_row.Reads as to-row-reads
 use Rattle.walks.proofs.trail.Trail.push.Reads as push-reads
-use Rattle.walks.proofs.Skips.{left-skip, no-column, no-row}
+use Rattle.walks.proofs.Skips.{no-column, no-row}
 use Rattle.walks.proofs.search.at_bit.Reads as at-bit
 use Rattle.walks.proofs.search.at_bit.Kinds as at-bit-kinds
 use Rattle.walks.proofs.search.+at_bit+at_check.Lts-at_bit as at-bit-lts
@@ -120,7 +120,7 @@ module _ (t : ℕ) where
   row-left : (c : bit at-bit-lts.After-next) → let l = c .before .before in let s = bit-start l in
       BitLeft (bit-blocks s) (s .args .corner) (s .args .stamp) (s .args .depth) (s .args .p) (now (s .args .seen)) (c .next .result) (l .loop .seen)
   row-left c =
-      let a = bit-start (c .before .before) .args in left-skip (row-next c) (no-row (now (a .plan)) (a .shape) (a .p)) (c .before .before .loop .inv .0)
+      let a = bit-start (c .before .before) .args in left-skip (c .before .before .loop .inv .0) (row-next c) (no-row (now (a .plan)) (a .shape) (a .p))
 
   -- where the step lands
   row-landed : (c : bit at-bit-lts.After-step) → let n = c .before .before .before .before in let s = bit-start (n .before .before) in
@@ -262,7 +262,7 @@ module _ (t : ℕ) where
   col-left : (c : check at-check-lts.After-next) → let l = c .before .before in let s = check-start l in
       CheckLeft (check-blocks s) (s .args .corner) (s .args .stamp) (s .args .depth) (s .args .p) (now (s .args .seen)) (c .next .result) (l .loop .seen)
   col-left c =
-      let a = check-start (c .before .before) .args in left-skip (col-next c) (no-column (now (a .plan)) (a .shape) (a .p)) (c .before .before .loop .inv .0)
+      let a = check-start (c .before .before) .args in left-skip (c .before .before .loop .inv .0) (col-next c) (no-column (now (a .plan)) (a .shape) (a .p))
 
   -- where the step lands
   col-landed : (c : check at-check-lts.After-step) → let n = c .before .before .before .before in let s = check-start (n .before .before) in

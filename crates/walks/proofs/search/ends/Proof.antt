@@ -11,8 +11,8 @@ use Rattle.walks.specs.declared.Step.the-variants.{To}
 use Rattle.walks.specs.declared.trail.Found.the-variants.{Met}
 use Rattle.walks.specs.Steps.{Blocks, blocksOf, toColumn, AtBit}
 use Rattle.walks.specs.Ways.{Joint, joint}
-use Rattle.walks.proofs.Loops.{left-stay, left-miss, left-hit, left-end, more-nothing, more-met, ran-shown}
-use Rattle.walks.proofs.Skips.{left-skip, no-column}
+use Rattle.walks.proofs.Loops.{left-stay, left-miss, left-hit, left-end, left-skip, more-nothing, more-met, ran-shown}
+use Rattle.walks.proofs.Skips.{no-column}
 use Rattle.walks.proofs.Steps.{listed, to-bit, push-same, EndsLeft, ends-left, ends-ran}
 use Rattle.walks.proofs.search.ends.Statement.{statement}
 use Rattle.walks.proofs.search.ends.Tie as tie
@@ -49,7 +49,7 @@ col-next c =
 col-left : (c : tie.After-next Inv-loop μ-loop) → let l = c .before .before in let s = start l in
     EndsLeft (blocks s) (s .args .p) (s .args .stamp) (s .args .corner .col) (now (s .args .seen)) (c .next .result) (l .loop .seen)
 col-left c =
-    let a = start (c .before .before) .args in left-skip (col-next c) (no-column (now (a .plan)) (a .shape) (a .p)) (c .before .before .loop .inv .0)
+    let a = start (c .before .before) .args in left-skip (c .before .before .loop .inv .0) (col-next c) (no-column (now (a .plan)) (a .shape) (a .p))
 
 -- where the step lands
 col-landed : (c : tie.After-step Inv-loop μ-loop) → let n = c .before .before .before .before in let s = start (n .before .before) in

@@ -1,0 +1,3 @@
+pub mod Tree
+pub mod Pairs
+pub mod Grow
