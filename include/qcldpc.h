@@ -49,7 +49,7 @@ uint64_t qcldpc_check(const int16_t *plan, size_t plan_len, uint64_t rows, uint6
 uint64_t qcldpc_girth(const int16_t *plan, size_t plan_len, uint64_t rows, uint64_t cols, uint64_t lift,
                       uint64_t target, uint64_t *out, size_t out_len);
 
-/* The girth test by sorted pairs, for larger plans: whether no simple cycle has fewer edges than the target, and no more. It
+/* The girth test by sorted pairs: whether no simple cycle has fewer edges than the target, and no more. It
  * agrees with qcldpc_girth wherever it gives a verdict. Refusals 1 to 6, 14, 26. out[0] is 0 where the plan passes, else 1.
  * The tree of a column j is all walks of 0 to target / 2 - 1 edges from bit j * lift that never step back, the root included.
  * Where columns have c and rows r filled blocks, or fewer, it has at most 1 + c + c (r - 1) + c (r - 1)(c - 1) + ... nodes,

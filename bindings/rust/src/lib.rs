@@ -153,7 +153,7 @@ pub fn girth(plan: &Plan, target: usize) -> Result<Girth, Refusal> {
     )
 }
 
-/// Whether no simple cycle has fewer edges than the target, by sorted pairs, for larger plans: `true` where the plan passes. It
+/// Whether no simple cycle has fewer edges than the target, by sorted pairs: `true` where the plan passes. It
 /// shows no cycle, and agrees with [`girth`] wherever it gives a verdict.
 ///
 /// The work list is for the tree of one column at a time: all walks of 0 to `target/2 − 1` edges from the column's bit 0 that

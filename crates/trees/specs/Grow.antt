@@ -1,9 +1,10 @@
 -- Growing a tree into a lent list: what it needs, and what is written.
-use Prim.Native.Nat.{ℕ, _+_, _≤_, _<_}
+use Prim.Native.Nat.{ℕ, _+_, _*_, _≤_, _<_}
 use mathlib.Core.Bool.{Bool, cond}
 use mathlib.Core.List.{List}
+use lib.Dec.{ltb}
 use lib.IntN.{ℤ}
-use lib.ListN.{length}
+use lib.ListN.{length, getD}
 use Rattle.writing.specs.Wrote.{Wrote}
 use Rattle.exponent.specs.declared.Shape.{Shape}
 use Rattle.exponent.specs.declared.position.Position.{Position}
@@ -32,3 +33,7 @@ pub record Ready (plan : List ℤ) (s : Shape) (down along : List ℕ) (left : �
 pub data Grew (before : List ℕ) (at limit : ℕ) (nodes after : List ℕ) : Grown → Type 0 where
   full : limit < at + length nodes → Grew before at limit nodes after Full
   grown : {next : ℕ} → next ≤ limit → Wrote before at nodes next after → Grew before at limit nodes after (Until next)
+
+-- the next filled row or column from `from` on, as an index list has it at (i, j); none are left where `from` is the count
+abbrev pub nextFrom : List ℕ → ℕ → ℕ → ℕ → ℕ → ℕ → ℕ
+nextFrom list cols i j from count = cond (ltb from count) (getD list (i * cols + j) 0) count

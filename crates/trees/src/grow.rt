@@ -4,11 +4,11 @@ use walks::Step;
 ghost use mathlib.Core.Path.{_≡_};
 ghost use mathlib.Core.Bool.{true, false};
 ghost use mathlib.Core.List.{[], _∷_};
-ghost use Prim.Native.Nat.{_<_, _≤_};
-ghost use lib.ListN.{set};
+ghost use Prim.Native.Nat.{_+_, _*_, _<_, _≤_};
+ghost use lib.ListN.{length, set};
 ghost use Rattle.walks.specs.Steps.{blocksOf};
 ghost use Rattle.trees.specs.Tree.{pack, packed, tree};
-ghost use Rattle.trees.specs.Grow.{Placed, Ready, Grew};
+ghost use Rattle.trees.specs.Grow.{Placed, Ready, Grew, nextFrom};
 
 // How far a tree has been written: past the limit, or until a place.
 pub enum Grown {
@@ -61,6 +61,17 @@ fn check_node(shape: Shape, left: usize, p: Position) -> u64
     pack(check, left, 0, p.col)
 }
 
+// The next filled row or column from `from` on, as the list has it at (i, j), or `count` where there are no more.
+fn next_from(list: &[u16], cols: usize, i: usize, j: usize, from: usize, count: usize) -> usize
+    requires { ⌜ (from < count → i * cols + j < length (now list)) ⌝ }
+    ensures { λ r. ⌜ r ≡ nextFrom (now (list .entry)) cols i j from count ⌝ }
+{
+    if from < count {
+        return index::next(list, cols, i, j);
+    }
+    count
+}
+
 // Writes the nodes from a bit on, where `left` edges may follow; stops at the limit. The last nodes are written without a call.
 pub fn at_bit(
     plan: &[i16],
@@ -82,13 +93,10 @@ pub fn at_bit(
     put(work, at, bit_node(shape, left, p));
     let rows = shape.rows;
     let mut end = at + 1;
-    let mut i = 0;
-    while i < rows {
-        let row = index::next(down, shape.cols, i, p.col);
-        if rows <= row {
-            return Grown::Until(end);
-        }
-        i = row + 1;
+    let mut next = next_from(down, shape.cols, 0, p.col, 0, rows);
+    while next < rows {
+        let row = next;
+        next = next_from(down, shape.cols, row + 1, p.col, row + 1, rows);
         let step = walks::to_row(plan, shape, p, row);
         if let Step::To(q) = step {
             let g = if left == 1 {
@@ -98,7 +106,7 @@ pub fn at_bit(
             };
             match g {
                 Grown::Full => return Grown::Full,
-                Grown::Until(next) => end = next,
+                Grown::Until(place) => end = place,
             }
         }
     }
@@ -126,13 +134,10 @@ pub fn at_check(
     put(work, at, check_node(shape, left, p));
     let cols = shape.cols;
     let mut end = at + 1;
-    let mut j = 0;
-    while j < cols {
-        let col = index::next(along, cols, p.row, j);
-        if cols <= col {
-            return Grown::Until(end);
-        }
-        j = col + 1;
+    let mut next = next_from(along, cols, p.row, 0, 0, cols);
+    while next < cols {
+        let col = next;
+        next = next_from(along, cols, p.row, col + 1, col + 1, cols);
         let step = walks::to_column(plan, shape, p, col);
         if let Step::To(q) = step {
             let g = if left == 1 {
@@ -142,7 +147,7 @@ pub fn at_check(
             };
             match g {
                 Grown::Full => return Grown::Full,
-                Grown::Until(next) => end = next,
+                Grown::Until(place) => end = place,
             }
         }
     }
