@@ -1,4 +1,4 @@
-/* Quasi-cyclic LDPC plans: the fourteen functions of libqcldpc.a (`rt staticlib qcldpc`), for C99 on x86-64. A program is
+/* Quasi-cyclic LDPC plans: the fifteen functions of libqcldpc.a (`rt staticlib qcldpc`), for C99 on x86-64. A program is
  * linked with them by `-L target/staticlib -lqcldpc`.
  *
  * A plan is rows x cols numbers, row by row: -1 is a zero (empty) block, e from 0 to 32,767 the identity with its rows
@@ -7,17 +7,19 @@
  * numbers and places count from 0.
  *
  * Beside a plan lie its weights, two lists: how many filled blocks (entries from 0 on) each row has, `rows` numbers, and how
- * many each column has, `cols` numbers. The calls that build a plan fill them, qcldpc_change keeps them true, and the calls
- * for alist text read them; no other call takes them.
+ * many each column has, `cols` numbers. The calls that build a table or triple plan fill them, qcldpc_change keeps them true,
+ * and the calls for alist text read them; no other call takes them. Those of the first plan are those of a joined one.
  *
  * Every function returns 0 for a result, or the number of a refusal (README.md, "Refusals"): the lowest that applies, and
  * then nothing lent is changed but the refusal's values, which stand in `out` from out[0] on:
  *     6, 9, 18, 19  the first place        10  i, k, r, t        17  the length needed        21  the place in the text
  * The other refusals have no values. Where only the new entry of qcldpc_change is below -1, the place of 6 is rows x cols, one
- * past the plan's last. 24 is a row or column outside the plan; 25, looked at last, a list of weights of the wrong length or,
- * unless the call builds the plan, with a wrong count; 26, looked at last, a work list with too few places. Places of `out`
- * that are not named for an answer keep what was in them. `out` needs QCLDPC_OUT places; with fewer, every function returns
- * QCLDPC_NO_ROOM and changes nothing.
+ * past the plan's last; of the two plans of qcldpc_join it is a place of the first, or of the second where only that has an
+ * entry below -1. 24 is a row or column outside the plan; 25, looked at last, a list of weights of the wrong length or, unless
+ * the call builds the plan, with a wrong count; 26, looked at last, a work list with too few places; 27 to 29, of two valid
+ * plans to be joined, lifts with a common divisor above 1, plans that differ in rows, columns or empty blocks, and a place for
+ * the joined plan that is not as long as each plan. Places of `out` that are not named for an answer keep what was in them.
+ * `out` needs QCLDPC_OUT places; with fewer, every function returns QCLDPC_NO_ROOM and changes nothing.
  *
  * Nothing is asked of numbers and bytes. Each pointer points to as many elements as the length behind it says (none are
  * read or written where that is 0), and memory that a function writes overlaps no other memory lent in the same call.
@@ -107,6 +109,17 @@ uint64_t qcldpc_steiner(uint64_t order, uint64_t lift, const int16_t *voltages, 
 uint64_t qcldpc_change(int16_t *plan, size_t plan_len, uint64_t rows, uint64_t cols, uint64_t lift,
                        uint64_t row, uint64_t col, int16_t entry, uint16_t *row_weights, size_t row_weights_len,
                        uint16_t *col_weights, size_t col_weights_len, uint64_t *out, size_t out_len);
+
+/* Joins two plans that have the same rows, columns and empty blocks, and lifts P and Q without a common divisor above 1, into
+ * the plan of lift P * Q: a filled entry is the only number from 0 to P * Q - 1 that leaves by P the remainder of the first
+ * plan's entry and by Q that of the second's, and an empty block is -1. Where either plan passes at a target of the girth test,
+ * the joined plan passes there too. It has the filled blocks of each plan, so the first plan's lists of weights are its lists
+ * too. `joined` has exactly as many places as each plan; it is filled in, whatever stood there. Refusals 1 to 6, the lowest
+ * that applies to either plan, and 3 also where P * Q is above 4,096, 4 also where cols * P * Q is above 65,536, with the first
+ * plan's columns; 27, 28, 29. out[0] is the joined lift, P * Q. */
+uint64_t qcldpc_join(const int16_t *first, size_t first_len, uint64_t rows, uint64_t cols, uint64_t lift,
+                     const int16_t *second, size_t second_len, uint64_t rows2, uint64_t cols2, uint64_t lift2,
+                     int16_t *joined, size_t joined_len, uint64_t *out, size_t out_len);
 
 /* Writes the alist text of a plan, padded; bytes past it stay. Refusals 1 to 6, 17 (so an empty place asks for the length,
  * whatever the weights are), 25. out[0] is the text's length. */

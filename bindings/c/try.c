@@ -1,4 +1,4 @@
-/* Calls each of the fourteen functions from C. Says which line is wrong, or "c: 14 functions answer". */
+/* Calls each of the fifteen functions from C. Says which line is wrong, or "c: 15 functions answer". */
 #include "qcldpc.h"
 
 #include <stdio.h>
@@ -237,6 +237,50 @@ static void changes(void)
     EXPECT(change(2, 0, -3) == 6 && out[0] == 3);
 }
 
+/* The plan 0 1 / -1 2 at lift 3 joined with another of four entries, in a place of so many numbers that holds 5 before. */
+static int16_t joined[5];
+
+static uint64_t join(const int16_t *second, uint64_t rows2, uint64_t cols2, uint64_t lift2, size_t places)
+{
+    static const int16_t first[4] = {0, 1, -1, 2};
+    for (size_t k = 0; k < 5; k++)
+        joined[k] = 5;
+    return qcldpc_join(first, 4, 2, 2, 3, second, 4, rows2, cols2, lift2, joined, places, out, QCLDPC_OUT);
+}
+
+/* Whether the place is as it was before the call. */
+static int still_five(void)
+{
+    for (size_t k = 0; k < 5; k++)
+        if (joined[k] != 5)
+            return 0;
+    return 1;
+}
+
+/* 9 leaves 0 by 3 and 1 by 4, 4 leaves 1 and 0, 11 leaves 2 and 3; 7 leaves 3 by 4 too. */
+static void joins(void)
+{
+    static const int16_t second[4] = {1, 0, -1, 7}, full[4] = {1, 0, 5, 7}, bad[4] = {1, -2, -1, -3}, wide[17];
+    static const int16_t wanted[5] = {9, 4, -1, 11, 5}, first_again[5] = {0, 1, -1, 2, 5};
+    int16_t wide_joined[17];
+    out[1] = 7;
+    EXPECT(join(second, 2, 2, 4, 4) == 0 && out[0] == 12 && out[1] == 7);
+    EXPECT(memcmp(joined, wanted, sizeof wanted) == 0);
+    EXPECT(join(second, 2, 2, 1, 4) == 0 && out[0] == 3 && memcmp(joined, first_again, sizeof first_again) == 0);
+    EXPECT(join(second, 2, 2, 1366, 4) == 3 && join(second, 2, 2, UINT64_MAX, 4) == 3 && still_five());
+    EXPECT(join(second, 0, 2, 0, 4) == 1 && join(second, 2, 3, 4, 4) == 5 && still_five());
+    EXPECT(join(bad, 2, 2, 6, 3) == 6 && out[0] == 1 && still_five());
+    EXPECT(join(full, 2, 2, 6, 3) == 27 && join(second, 2, 2, 9, 4) == 27 && still_five());
+    EXPECT(join(full, 2, 2, 4, 3) == 28 && join(second, 4, 1, 4, 4) == 28 && join(full, 2, 2, 4, 4) == 28 && still_five());
+    EXPECT(join(second, 2, 2, 4, 3) == 29 && join(second, 2, 2, 4, 5) == 29 && join(second, 2, 2, 4, 0) == 29 && still_five());
+    /* 17 columns at lift 15 * 257 have 65,535 bits, at lift 16 * 241 they have 65,552; both plans may be one */
+    EXPECT(qcldpc_join(wide, 17, 1, 17, 15, wide, 17, 1, 17, 257, wide_joined, 17, out, QCLDPC_OUT) == 0 && out[0] == 3855);
+    EXPECT(qcldpc_join(wide, 17, 1, 17, 16, wide, 17, 1, 17, 241, wide_joined, 17, out, QCLDPC_OUT) == 4);
+    /* where both plans have bad entries, the first plan's place is shown */
+    EXPECT(qcldpc_join(bad, 4, 2, 2, 3, bad + 1, 3, 1, 3, 4, joined, 4, out, QCLDPC_OUT) == 6 && out[0] == 1);
+    EXPECT(qcldpc_join(bad + 1, 3, 1, 3, 3, bad, 4, 2, 2, 4, joined, 4, out, QCLDPC_OUT) == 6 && out[0] == 0);
+}
+
 /* The plan's alist, in a place of 64 bytes; with its first so many row and column weights. */
 static uint8_t text[64];
 
@@ -293,9 +337,11 @@ static void unpadded_texts(void)
 static void too_small_an_out(void)
 {
     uint8_t word[4] = {1, 0, 0, 2};
+    int16_t place[2] = {5, 5};
     out[0] = 5;
     EXPECT(qcldpc_fill(plan, 2, 1, 2, 2, word, 4, out, QCLDPC_OUT - 1) == QCLDPC_NO_ROOM);
-    EXPECT(out[0] == 5 && word[3] == 2);
+    EXPECT(qcldpc_join(plan, 2, 1, 2, 2, plan, 2, 1, 2, 3, place, 2, out, QCLDPC_OUT - 1) == QCLDPC_NO_ROOM);
+    EXPECT(out[0] == 5 && word[3] == 2 && place[0] == 5 && place[1] == 5);
 }
 
 int main(void)
@@ -309,10 +355,11 @@ int main(void)
     tables();
     triples();
     changes();
+    joins();
     texts();
     unpadded_texts();
     too_small_an_out();
     if (!wrong)
-        puts("c: 14 functions answer");
+        puts("c: 15 functions answer");
     return wrong;
 }

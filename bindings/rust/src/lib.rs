@@ -25,7 +25,8 @@
 //! ```
 //!
 //! Beside a plan lie its weights, two lists: how many filled blocks each row has, and how many each column has. The calls that
-//! build a plan fill them, [`change`] keeps them true, and the calls for alist text read them. An [`OwnedPlan`] has its own.
+//! build a table or triple plan fill them, [`change`] keeps them true, and the calls for alist text read them; those of the
+//! first plan are those of a joined one. An [`OwnedPlan`] has its own.
 
 mod owned;
 pub mod raw;
@@ -62,7 +63,7 @@ impl Plan<'_> {
     }
 }
 
-/// Why a call gives no result: a number from 1 to 26 (README.md, "Refusals") and its values.
+/// Why a call gives no result: a number from 1 to 29 (README.md, "Refusals") and its values.
 #[derive(Clone, Debug, PartialEq, Eq)]
 pub struct Refusal {
     pub number: u64,
@@ -339,6 +340,44 @@ pub fn change(
     let (rows, cols, lift, row, col) = (rows as u64, cols as u64, lift as u64, row as u64, col as u64);
     let ((p, n), (r, rn), (c, cn)) = (place(plan), place(row_weights), place(col_weights));
     call(|out, len| unsafe { raw::qcldpc_change(p, n, rows, cols, lift, row, col, entry, r, rn, c, cn, out, len) }, |_| ())
+}
+
+/// Joins two plans that have the same rows, columns and empty blocks, and lifts `P` and `Q` without a common divisor above 1,
+/// into the plan of lift `P × Q`, and gives that lift. A filled entry is the only number from 0 to `P × Q − 1` that leaves by
+/// `P` the remainder of the first plan's entry and by `Q` that of the second's; an empty block is −1. The place has exactly as
+/// many numbers as each plan; what stood there is not read. [`OwnedPlan::join`] makes the place itself.
+///
+/// Where either plan passes at a target, the joined plan passes there too. It has the filled blocks of each plan, so the first
+/// plan's lists of weights are its lists too.
+///
+/// Refusals 1 to 6, the lowest that applies to either plan, and 3 also where `P × Q` is above 4,096, 4 also where the first
+/// plan's columns × `P × Q` are above 65,536; 6 has a place of the first plan, or of the second where only that has an entry
+/// below −1. Then 27 where the lifts have a common divisor above 1, 28 where the plans differ in rows, columns or empty blocks,
+/// 29 where the place is not as long as each plan.
+///
+/// 9 leaves 0 by 3 and 1 by 4; 4 leaves 1 and 0; 11 leaves 2 and 3, and 7 leaves 3 by 4 too:
+///
+/// ```
+/// use qcldpc::{join, Plan, Refusal};
+///
+/// let first = Plan { entries: &[0, 1, -1, 2], rows: 2, cols: 2, lift: 3 };
+/// let second = Plan { entries: &[1, 0, -1, 7], rows: 2, cols: 2, lift: 4 };
+/// let mut joined = [0; 4];
+/// assert_eq!(join(&first, &second, &mut joined), Ok(12));
+/// assert_eq!(joined, [9, 4, -1, 11]);
+///
+/// let refused = |number| Err(Refusal { number, values: vec![] });
+/// assert_eq!(join(&first, &Plan { lift: 6, ..second }, &mut joined), refused(27));
+/// assert_eq!(join(&first, &Plan { entries: &[1, 0, 5, 7], ..second }, &mut joined), refused(28));
+/// assert_eq!(join(&first, &second, &mut joined[1..]), refused(29));
+/// ```
+pub fn join(first: &Plan, second: &Plan, joined: &mut [i16]) -> Result<usize, Refusal> {
+    let ((p, n, rows, cols, lift), (p2, n2, rows2, cols2, lift2)) = (first.lent(), second.lent());
+    let (j, jn) = place(joined);
+    call(
+        |out, len| unsafe { raw::qcldpc_join(p, n, rows, cols, lift, p2, n2, rows2, cols2, lift2, j, jn, out, len) },
+        |out| out[0] as usize,
+    )
 }
 
 /// Writes the alist text of a plan, in its padded form, and gives its length; bytes past it stay. [`OwnedPlan::alist`] makes the

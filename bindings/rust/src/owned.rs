@@ -1,5 +1,5 @@
 //! A plan that owns its entries and its weights.
-use crate::{alist_compare, alist_write, build, change, check, steiner, Built, Plan, Refusal};
+use crate::{alist_compare, alist_write, build, change, check, join, steiner, Built, Plan, Refusal};
 
 /// A good plan that owns its entries and, beside them, the weights of its rows and columns, which it keeps true: no call on it
 /// is refused for the plan or for its weights.
@@ -98,6 +98,31 @@ impl OwnedPlan {
         let (rows, cols) = if [7, 9, 13, 15, 19].contains(&order) { (order, order * (order - 1) / 6) } else { (0, 0) };
         let built = |plan: &mut [i16], rows: &mut [u16], cols: &mut [u16]| steiner(order, lift, voltages, plan, rows, cols);
         OwnedPlan::in_places(rows, cols, lift, built)
+    }
+
+    /// The plan that two plans make, as [`join`] joins them, in a place of its own. Refusals 1 to 6, 27, 28.
+    ///
+    /// The plan 0 0 / 0 1 closes when its one shift has been gone over as often as the lift says, so that its girth is four
+    /// times the lift: 8 at 2, 12 at 3, and 24 at 6:
+    ///
+    /// ```
+    /// use qcldpc::{girth, Girth, OwnedPlan, Plan, Refusal};
+    ///
+    /// let first = Plan { entries: &[0, 0, 0, 1], rows: 2, cols: 2, lift: 2 };
+    /// let second = Plan { lift: 3, ..first };
+    /// assert_eq!(girth(&first, 18)?.girth(), Some(8));
+    /// assert_eq!(girth(&second, 18)?.girth(), Some(12));
+    ///
+    /// let plan = OwnedPlan::join(&first, &second)?;
+    /// assert_eq!((plan.entries(), plan.lift(), plan.row_weights()), (&[0, 0, 0, 1][..], 6, &[2, 2][..]));
+    /// assert_eq!(girth(&plan.lent(), 18), Ok(Girth::Passed));
+    /// assert_eq!(OwnedPlan::join(&first, &plan.lent()), Err(Refusal { number: 27, values: vec![] }));
+    /// # Ok::<(), Refusal>(())
+    /// ```
+    pub fn join(first: &Plan, second: &Plan) -> Result<OwnedPlan, Refusal> {
+        let mut entries = vec![0; first.entries.len()];
+        let lift = join(first, second, &mut entries)?;
+        OwnedPlan::new(entries, first.rows, first.cols, lift)
     }
 
     // What a call builds in places for a plan of so many rows and columns, and for its weights.

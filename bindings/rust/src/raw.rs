@@ -1,4 +1,4 @@
-//! The fourteen functions as `include/qcldpc.h` declares them: a slice passes as a pointer, then its length.
+//! The fifteen functions as `include/qcldpc.h` declares them: a slice passes as a pointer, then its length.
 //! Nothing is asked of numbers and bytes; each pointer goes with the length of its memory, and memory that is written
 //! overlaps no other. A call returns within 1 MiB of stack.
 
@@ -130,6 +130,23 @@ extern "C" {
         row_weights_len: usize,
         col_weights: *mut u16,
         col_weights_len: usize,
+        out: *mut u64,
+        out_len: usize,
+    ) -> u64;
+
+    pub fn qcldpc_join(
+        first: *const i16,
+        first_len: usize,
+        rows: u64,
+        cols: u64,
+        lift: u64,
+        second: *const i16,
+        second_len: usize,
+        rows2: u64,
+        cols2: u64,
+        lift2: u64,
+        joined: *mut i16,
+        joined_len: usize,
         out: *mut u64,
         out_len: usize,
     ) -> u64;

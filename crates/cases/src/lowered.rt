@@ -4,25 +4,15 @@ use crate::say::judged;
 use crate::say::number;
 use crate::say::say;
 use exponent::block;
-use exponent::block::Block;
 
 // No entry reaches this lift: it leaves all as they are.
-const ABOVE_ALL: usize = 32768;
-
-// The voltage of a block; 0 where there is none.
-fn voltage(b: Block) -> usize {
-    match b {
-        Block::Shift(e) => e,
-        Block::Zero => 0,
-        Block::Invalid => 0,
-    }
-}
+pub const ABOVE_ALL: usize = 32768;
 
 fn largest(plan: &[i16]) -> usize {
     let mut most = 0;
     let mut place = 0;
     while place < plan.len() {
-        let e = voltage(block::entry_at(plan, ABOVE_ALL, place));
+        let e = block::shift_of(block::entry_at(plan, ABOVE_ALL, place));
         if most < e {
             most = e;
         }

@@ -1,6 +1,7 @@
 // The test program: runs the bench cases of document 01 that are not proved as a table, and the sources' parameters,
 // and writes a line for each answer, to be compared with the stored output.
 mod changes; // changes.rt: one block changed
+mod joins; // joins.rt: two plans made one
 mod lowered; // lowered.rt: a matrix with P lowered, so that voltages stand at or above it
 mod pairs; // pairs.rt: the girth test by sorted pairs
 mod say; // say.rt: what is written
@@ -39,4 +40,12 @@ fn main() {
     pairs::four_columns();
     pairs::five_columns();
     pairs::five_lowered();
+    joins::example();
+    joins::above();
+    joins::labelings();
+    joins::tables();
+    joins::largest_lift();
+    joins::sizes();
+    joins::turned_away();
+    joins::no_block();
 }

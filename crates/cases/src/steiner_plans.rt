@@ -16,7 +16,7 @@ pub fn fill(voltages: &mut [i16]) {
     }
 }
 
-fn show_entry(b: Block) {
+pub fn show_entry(b: Block) {
     match b {
         Block::Shift(e) => number(b" ", e),
         Block::Zero => say(b" ."),

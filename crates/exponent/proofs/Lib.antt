@@ -5,3 +5,4 @@ pub mod Tanner
 pub mod Turning
 pub mod Cases
 pub mod Remainders
+pub mod Reducing

@@ -19,21 +19,22 @@ module _ (lift : ℕ) where
   same-length-then (empty s) l = ap suc (same-length-then s l)
   same-length-then (filled e f h s) l = ap suc (same-length-then s l)
 
-  pub same-first-then : {p q : List ℤ} → SameRemainders lift p q → (l : List ℤ) → firstPlace (invalidEntry lift) (p ++ l) ≡ firstPlace (invalidEntry lift) (q ++ l)
+  -- which entry is invalid does not go by the lift
+  pub same-first-then : {p q : List ℤ} → SameRemainders lift p q → (size : ℕ) (l : List ℤ) → firstPlace (invalidEntry size) (p ++ l) ≡ firstPlace (invalidEntry size) (q ++ l)
   unfolding firstPlace
-  same-first-then none l = refl
-  same-first-then (empty s) l = ap suc (same-first-then s l)
-  same-first-then (filled e f h s) l = ap suc (same-first-then s l)
+  same-first-then none size l = refl
+  same-first-then (empty s) size l = ap suc (same-first-then s size l)
+  same-first-then (filled e f h s) size l = ap suc (same-first-then s size l)
 
   module _ {p q : List ℤ} (same : SameRemainders lift p q) where
     pub same-length : length p ≡ length q
     same-length = ap length (sym (append-nil p)) ∙ same-length-then same [] ∙ ap length (append-nil q)
 
-    same-first : firstPlace (invalidEntry lift) p ≡ firstPlace (invalidEntry lift) q
-    same-first = ap (firstPlace (invalidEntry lift)) (sym (append-nil p)) ∙ same-first-then same [] ∙ ap (firstPlace (invalidEntry lift)) (append-nil q)
+    same-first : (size : ℕ) → firstPlace (invalidEntry size) p ≡ firstPlace (invalidEntry size) q
+    same-first size = ap (firstPlace (invalidEntry size)) (sym (append-nil p)) ∙ same-first-then same size [] ∙ ap (firstPlace (invalidEntry size)) (append-nil q)
 
   -- the same block stands at every place
-  same-entry : {p q : List ℤ} → SameRemainders lift p q → (place : ℕ) → entryAt p lift place ≡ entryAt q lift place
+  pub same-entry : {p q : List ℤ} → SameRemainders lift p q → (place : ℕ) → entryAt p lift place ≡ entryAt q lift place
   unfolding entryAt
   same-entry none place = refl
   same-entry (empty s) zero = refl
@@ -42,9 +43,13 @@ module _ (lift : ℕ) where
   same-entry (filled e f h s) (suc place) = same-entry s place
 
   module _ {p q : List ℤ} (same : SameRemainders lift p q) (rows cols : ℕ) where
-    pub same-rules : planRules p rows cols lift ≡ planRules q rows cols lift
+    -- 1 to 6, also at another lift (document 02, slip 9)
+    pub same-rules-at : (size : ℕ) → planRules p rows cols size ≡ planRules q rows cols size
     unfolding planRules
-    same-rules = rw (same-length same, same-first same)
+    same-rules-at size = rw (same-length same, same-first same size)
+
+    pub same-rules : planRules p rows cols lift ≡ planRules q rows cols lift
+    same-rules = same-rules-at lift
 
     pub same-weights : ((j : ℕ) → columnWeight p rows cols lift j ≡ columnWeight q rows cols lift j) × ((i : ℕ) → rowWeight p cols lift i ≡ rowWeight q cols lift i)
     unfolding columnWeight rowWeight blockAt

@@ -19,7 +19,7 @@ use Rattle.graph.proofs.Decide.{same-bool}
 use Rattle.graph.proofs.Count.{count-same}
 use Rattle.exponent.specs.declared.block.Block.{Block}
 use Rattle.exponent.specs.declared.block.Block.the-variants.{Zero, Shift, Invalid}
-use Rattle.exponent.specs.Plan.{blockOf, entryAt, blockAt, filled}
+use Rattle.exponent.specs.Plan.{blockOf, entryAt, blockAt, filled, shiftOf}
 use Rattle.exponent.specs.Tanner.{edge, tanner, columnWeight, rowWeight, ThreeBlocks}
 use Rattle.exponent.specs.Neighbours.{gather, bitIn, checkIn}
 use Rattle.exponent.proofs.Numbers.{block-of, place-of, undo}
@@ -31,6 +31,12 @@ pub block-shift : (lift : ℕ) (entry : ℤ) (e : ℕ) → 0 < lift → blockOf 
 block-shift lift (pos x) e h q = let s : x % lift ≡ e = cc in omega (arith, mod-lt x h)
 block-shift lift (negsuc zero) e h q = absurd (let z : _≡_ {A = ℕ} 0 1 = cc in omega arith)
 block-shift lift (negsuc (suc n)) e h q = absurd (let z : _≡_ {A = ℕ} 0 1 = cc in omega arith)
+
+-- and so does what `shiftOf` gives of any block
+pub shift-of-low : (lift : ℕ) (entry : ℤ) → 0 < lift → shiftOf (blockOf lift entry) < lift
+shift-of-low lift (pos x) h = mod-lt x h
+shift-of-low lift (negsuc zero) h = h
+shift-of-low lift (negsuc (suc n)) h = h
 
 pub shift-low : (plan : List ℤ) (cols lift i j e : ℕ) → 0 < lift → blockAt plan cols lift i j ≡ Shift e → e < lift
 unfolding blockAt entryAt

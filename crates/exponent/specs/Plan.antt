@@ -37,6 +37,12 @@ filled Zero = false
 filled (Shift e) = true
 filled Invalid = false
 
+-- its shift, and 0 where it is not filled
+abbrev pub shiftOf : Block → ℕ
+shiftOf Zero = 0
+shiftOf (Shift e) = e
+shiftOf Invalid = 0
+
 -- entries of filled blocks, by their shifts: how the cases write a plan down
 abbrev pub shifts : List ℕ → List ℤ
 shifts [] = []

@@ -1,7 +1,7 @@
 ghost use mathlib.Core.Path.{_≡_};
 ghost use Prim.Native.Nat.{_+_, _*_, _%_, _<_};
 ghost use lib.ListN.{length};
-ghost use Rattle.exponent.specs.Plan.{entryAt, blockAt, isInvalid, filled};
+ghost use Rattle.exponent.specs.Plan.{entryAt, blockAt, isInvalid, filled, shiftOf};
 
 // A block of the matrix: the zero block (document 01: empty), the identity shifted right (filled), or an entry that is neither.
 pub enum Block {
@@ -65,5 +65,16 @@ pub fn is_filled(b: Block) -> bool
         Block::Zero => false,
         Block::Shift(_) => true,
         Block::Invalid => false,
+    }
+}
+
+// The shift of a filled block, and 0 of another one.
+pub fn shift_of(b: Block) -> usize
+    ensures { λ r. ⌜ r ≡ shiftOf b ⌝ }
+{
+    match b {
+        Block::Zero => 0,
+        Block::Shift(e) => e,
+        Block::Invalid => 0,
     }
 }

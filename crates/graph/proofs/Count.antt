@@ -280,17 +280,17 @@ count-from f g s (x ∷ l) h = omega (arith, ap one (ap g (sym (add-zero s)) ∙
 pub count-positions : (f : ℕ → Bool) (l : List ℕ) → count f l ≡ count (λ i. f (getD l i 0)) (below (length l))
 count-positions f l = count-from f _ 0 l (λ i. ap (λ (k : ℕ). f (getD l k 0)) (zero-add i))
 
-getD-map-range : (f : ℕ → ℕ) (s n i : ℕ) → i < n → getD (map f (range s n)) i 0 ≡ f (s + i)
+getD-map-range : {A : Type 0} (d : A) (f : ℕ → A) (s n i : ℕ) → i < n → getD (map f (range s n)) i d ≡ f (s + i)
 unfolding range
-getD-map-range f s zero i h = absurd (let z : ⊥ = omega arith in z)
-getD-map-range f s (suc n) zero h = ap f (sym (add-zero s))
-getD-map-range f s (suc n) (suc i) h = getD-map-range f (suc s) n i (omega arith) ∙ ap f (shift s i)
+getD-map-range d f s zero i h = absurd (let z : ⊥ = omega arith in z)
+getD-map-range d f s (suc n) zero h = ap f (sym (add-zero s))
+getD-map-range d f s (suc n) (suc i) h = getD-map-range d f (suc s) n i (omega arith) ∙ ap f (shift s i)
 
--- the list f 0, f 1, … of n numbers
-pub getD-map-below : (f : ℕ → ℕ) (n i : ℕ) → i < n → getD (map f (below n)) i 0 ≡ f i
-getD-map-below f n i h = getD-map-range f 0 n i h ∙ ap f (zero-add i)
+-- the list f 0, f 1, … of n members
+pub getD-map-below : {A : Type 0} (d : A) (f : ℕ → A) (n i : ℕ) → i < n → getD (map f (below n)) i d ≡ f i
+getD-map-below d f n i h = getD-map-range d f 0 n i h ∙ ap f (zero-add i)
 
-pub length-map-below : (f : ℕ → ℕ) (n : ℕ) → length (map f (below n)) ≡ n
+pub length-map-below : {A : Type 0} (f : ℕ → A) (n : ℕ) → length (map f (below n)) ≡ n
 length-map-below f n = length-map (below n) f ∙ length-range 0 n
 
 pub count-none : (f : ℕ → Bool) (l : List ℕ) → ((x : ℕ) → Mem x l → f x ≡ false) → count f l ≡ 0

@@ -75,7 +75,7 @@ module _ (G : Bipartite) (w : List ℕ) where
 
   round-at : (b : ℕ) → b < length w → getD (fillRound G w) b 0 ≡ cond (erased w b) (forced G w (G .checks) b) (getD w b 0)
   unfolding fillRound
-  round-at b h = getD-map-below _ (length w) b h
+  round-at b h = getD-map-below 0 _ (length w) b h
 
   round-known : (b : ℕ) → erased w b ≡ false → getD (fillRound G w) b 0 ≡ getD w b 0
   round-known b e =
@@ -330,7 +330,7 @@ module _ (G : Bipartite) (v w : List ℕ) (d : Damaged G v w) where
       u = map put (below (length v))
 
       at : (b : ℕ) → b < length v → getD u b 0 ≡ put b
-      at b h = getD-map-below put (length v) b h
+      at b h = getD-map-below 0 put (length v) b h
 
       outside : (b : ℕ) → largest G w b ≡ false → getD u b 0 ≡ getD v b 0
       outside b s =

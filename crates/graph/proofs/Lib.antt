@@ -5,6 +5,7 @@ pub mod Neighbours
 pub mod Walks
 pub mod Cycles
 pub mod Closed
+pub mod Covers
 pub mod Meeting
 pub mod Tree
 pub mod Cases

@@ -63,7 +63,7 @@ degrees-next : (G : Bipartite) (side : Side) (k : ℕ) → k < nodes G side → 
 unfolding degrees
 degrees-next G side k h =
     drop-cons (degrees G side) k 0 (omega (arith, length-degrees G side))
-    ∙ ap (λ (n : ℕ). n ∷ drop (suc k) (degrees G side)) (getD-map-below (λ x. length (neighbours G side x)) (nodes G side) k h)
+    ∙ ap (λ (n : ℕ). n ∷ drop (suc k) (degrees G side)) (getD-map-below 0 (λ x. length (neighbours G side x)) (nodes G side) k h)
     ∙ ap (λ (n : ℕ). length (neighbours G side k) ∷ drop n (degrees G side)) (sym (add-one k))
 
 fill-next : (rest : ℕ → List ℕ) (from : ℕ) (r : Number) (k w : ℕ) → k < w → Fills rest from r

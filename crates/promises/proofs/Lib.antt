@@ -1,11 +1,13 @@
 pub mod Two
 pub mod Matching
+pub mod Together
 pub mod PlanRows
 pub mod PairRows
 pub mod WeightRows
 pub mod TableRows
 pub mod WordRows
 pub mod Tokens
+pub mod JoinRows
 pub mod TextRows
 pub mod Texts
 pub mod SteinerRows
@@ -16,7 +18,9 @@ pub mod Table
 pub mod Steiner
 pub mod Cases
 pub mod Counts
+pub mod SameJoins
 pub mod Remainders
 pub mod Preview
 pub mod Changes
 pub mod Pairs
+pub mod Joins

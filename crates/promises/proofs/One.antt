@@ -39,10 +39,11 @@ use Rattle.table.proofs.Plans as table-rules
 use Rattle.steiner.specs.System.{cols}
 use Rattle.steiner.specs.Build as steiner-build
 use Rattle.steiner.proofs.Plans as steiner-rules
+use Rattle.crt.specs.Join.{joinedPlan, joinRefusal, joining}
 use Rattle.alist.specs.Calls.{alistText, writeRules, written, laid, comparison}
 use Rattle.alist.proofs.Answers as text-rules
 use Rattle.promises.specs.TurnedAway.{LowestOf}
-use Rattle.promises.specs.One.{ofValidity, ofOutcome, ofVerdict, ofSyndrome, ofFilling, ofSupplied, ofBuilt, ofWritten, ofComparison, ofChanged, Unchanged, Promise-1}
+use Rattle.promises.specs.One.{ofValidity, ofOutcome, ofVerdict, ofSyndrome, ofFilling, ofSupplied, ofBuilt, ofWritten, ofComparison, ofChanged, ofJoining, Unchanged, Promise-1}
 use Rattle.promises.proofs.Matching.{Matches, lowest-of}
 use Rattle.promises.proofs.PlanRows.{plan-matches, test-matches}
 use Rattle.promises.proofs.PairRows.{pairs-matches}
@@ -50,6 +51,7 @@ use Rattle.promises.proofs.WordRows.{check-matches, fill-matches}
 use Rattle.promises.proofs.TableRows.{supply-matches, build-matches}
 use Rattle.promises.proofs.SteinerRows.{steiner-matches}
 use Rattle.promises.proofs.ChangeRows.{change-matches}
+use Rattle.promises.proofs.JoinRows.{join-lowest}
 use Rattle.promises.proofs.TextRows.{write-matches, compare-matches}
 
 -- an answer carries the refusal that it was made from
@@ -92,6 +94,10 @@ in-comparison (some r) = refl
 in-changed : (o : Option Refusal) → ofChanged (changed o) ≡ o
 in-changed none = refl
 in-changed (some r) = refl
+
+in-joining : (o : Option Refusal) (lift : ℕ) → ofJoining (joining o lift) ≡ o
+in-joining none lift = refl
+in-joining (some r) lift = refl
 
 -- a refusal leaves what was lent
 kept : {A : Type 0} (leaves : Option Refusal → A) (before : A) → ((r : Refusal) → leaves (some r) ≡ before)
@@ -168,6 +174,11 @@ promise-1 =
         answered _ _ _ (change-rise (h .plan) (c .shape) (c .at) (c .entry) (h .rows) (h .cols)) (change-matches (h .plan) (c .shape) (c .at) (c .entry) (h .rows) (h .cols)) (changing c h),
         λ r e. stays c h r (sym (in-changed (refusalOf c h)) ∙ e),
       );
+      join = λ a b place.
+          let e = in-joining (joinRefusal a b (length place)) (a .lift * b .lift) in (
+            subst (LowestOf _) (sym e) (join-lowest a b (length place)),
+            kept (λ o. lent o (joinedPlan (a .plan) (a .lift) (b .plan) (b .lift)) place) place (λ r. refl) _ _ e,
+          );
       write = λ plan rows cols lift byrow bycol place. (
         answered _ _ _ (text-rules.write-rise plan rows cols lift byrow bycol place) (write-matches plan rows cols lift byrow bycol place) (in-written _ _),
         kept (λ o. laid o (alistText plan rows cols lift) place) place (λ r. refl) _ _

@@ -32,6 +32,7 @@ use Rattle.syndrome.specs.Check.{checkRules, syndromeOf}
 use Rattle.peeling.specs.Fill.{fillRules, fillAnswer, fillWord}
 use Rattle.alist.specs.Calls.{writeRules, compareRules}
 use Rattle.promises.specs.Remainders.{SameChange, SameAnswers}
+use Rattle.promises.proofs.SameJoins.{first-alike, second-alike}
 
 -- an answer of the girth test that one plan allows, the other does
 module _ (p q : List ℤ) (rows cols lift : ℕ) (rules : planRules p rows cols lift ≡ planRules q rows cols lift) (graph : tanner p rows cols lift ≡ tanner q rows cols lift) where
@@ -87,7 +88,7 @@ module _ (lift : ℕ) where
 
     same-refusal : refusalOf (call rows cols lift row col entry) (held p byrow bycol) ≡ refusalOf (call rows cols lift row col entry) (held q byrow bycol)
     unfolding refusalOf changeRules
-    same-refusal = rw (same-length lift same, same-first-then lift same (entry ∷ []), same-length-then lift same (entry ∷ []), same-right lift same rows cols byrow bycol)
+    same-refusal = rw (same-length lift same, same-first-then lift same lift (entry ∷ []), same-length-then lift same (entry ∷ []), same-right lift same rows cols byrow bycol)
 
     changed-alike : SameChange lift (call rows cols lift row col entry) (held p byrow bycol) (held q byrow bycol)
     unfolding stored
@@ -128,4 +129,6 @@ same-remainders p q rows cols lift same =
       written-place = λ byrow bycol place. rw (rules, graph, same-right lift same rows cols byrow bycol);
       comparing = λ byrow bycol text. rw (rules, graph, same-right lift same rows cols byrow bycol);
       changing = changed-alike lift same rows cols;
+      joining-first = λ b place. first-alike lift same rows cols b place;
+      joining-second = λ a place. second-alike lift same rows cols a place;
     }

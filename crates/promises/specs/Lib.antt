@@ -11,3 +11,4 @@ pub mod Remainders
 pub mod Preview
 pub mod Changes
 pub mod Pairs
+pub mod Joins

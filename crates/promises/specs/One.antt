@@ -39,12 +39,15 @@ use Rattle.weights.specs.Weights.{Held, roomOf}
 use Rattle.weights.specs.Change.{changed, Call, refusalOf, after}
 use Rattle.table.specs.Build.{supplyRules, supplied, buildRefusal, afterBuild, built}
 use Rattle.steiner.specs.Build as steiner-build
+use Rattle.crt.specs.declared.Joining.{Joining}
+use Rattle.crt.specs.declared.Joining.the-variants as joining-answer
+use Rattle.crt.specs.Join.{Sized, atProduct, joinRefusal, afterJoin, joining}
 use Rattle.alist.specs.declared.Written.{Written}
 use Rattle.alist.specs.declared.Written.the-variants as written-answer
 use Rattle.alist.specs.declared.Comparison.{Comparison}
 use Rattle.alist.specs.declared.Comparison.the-variants as comparison-answer
 use Rattle.alist.specs.Calls.{alistText, writeRules, written, laid, compareRules, comparison}
-use Rattle.promises.specs.TurnedAway.{LiftRow, PlanRow, TargetRow, SquareRow, TableRow, MaskRow, PlaceRow, WordRow, RoomRow, ErasureRow, SolutionRow, TokenRow, SteinerRow, NewEntryRow, BlockRow, WeightRow, WorkRow, _or_, LowestOf}
+use Rattle.promises.specs.TurnedAway.{LiftRow, PlanRow, TargetRow, SquareRow, TableRow, MaskRow, PlaceRow, WordRow, RoomRow, ErasureRow, SolutionRow, TokenRow, SteinerRow, NewEntryRow, BlockRow, WeightRow, WorkRow, SizedRow, JoinRow, _or_, _over_, LowestOf}
 
 -- the refusal in each kind of answer
 abbrev pub ofValidity : Validity → Option Refusal
@@ -89,6 +92,10 @@ ofComparison (comparison-answer.Refused r) = some r
 abbrev pub ofChanged : Changed → Option Refusal
 ofChanged change-answer.Changed = none
 ofChanged (change-answer.Refused r) = some r
+
+abbrev pub ofJoining : Joining → Option Refusal
+ofJoining (joining-answer.Joined lift) = none
+ofJoining (joining-answer.Refused r) = some r
 
 -- lent memory, a list or several together, before the call and after it: on a refusal it is as it was
 abbrev pub Unchanged : {A : Type 0} → Option Refusal → A → A → Type 0
@@ -138,6 +145,10 @@ pub record Promise-1 : Type 0 where
       LowestOf (PlanRow (h .plan) (s .rows) (s .cols) (s .lift) or NewEntryRow (h .plan) (s .rows) (s .cols) (c .entry)
       or (BlockRow (s .rows) (s .cols) (at .row) (at .col) or WeightRow (h .plan) (s .rows) (s .cols) (s .lift) (h .rows) (h .cols))) answer
       × Unchanged answer h (after c h)
+  -- 1 to 6 of the first plan, of the second, and of the first at the size P × Q; 27 to 29 (document 02, slip 9)
+  pub join : (a b : Sized) (place : List ℤ)
+      → let answer = ofJoining (joining (joinRefusal a b (length place)) (a .lift * b .lift)) in
+      LowestOf (SizedRow a over SizedRow b over SizedRow (atProduct a b) or JoinRow a b (length place)) answer × Unchanged answer place (afterJoin a b place)
   -- 1 to 6, 17, 25
   pub write : (plan : List ℤ) (rows cols lift : ℕ) (byrow bycol place : List ℕ)
       → let refusal = lowest (writeRules plan rows cols lift byrow bycol place) in

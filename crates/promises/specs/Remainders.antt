@@ -1,6 +1,6 @@
 -- Document 02, slip 4: plans with the same empty blocks and equal remainders get the same girth, frames and text. It is said of every call that
 -- is given a plan, over the definitions that its contract equates answer and lent memory with.
-use Prim.Native.Nat.{ℕ}
+use Prim.Native.Nat.{ℕ, _*_}
 use mathlib.Core.Path.{_≡_}
 use mathlib.Core.Logic.{_↔_}
 use mathlib.Core.List.{List}
@@ -19,6 +19,7 @@ use Rattle.treetest.specs.declared.Verdict.{Verdict}
 use Rattle.treetest.specs.Answer as pairs
 use Rattle.syndrome.specs.Check.{syndromeOf}
 use Rattle.peeling.specs.Fill.{fillAnswer, fillWord}
+use Rattle.crt.specs.Join.{Sized, sized, joinRefusal, afterJoin, joining}
 use Rattle.alist.specs.Calls.{alistText, writeRules, written, laid, compareRules, comparison}
 
 -- what one change does alike to two plans with their lists
@@ -27,6 +28,11 @@ pub record SameChange (lift : ℕ) (c : Call) (h g : Held) : Type 0 where
   pub rows : after c h .rows ≡ after c g .rows
   pub cols : after c h .cols ≡ after c g .cols
   pub plan : SameRemainders lift (after c h .plan) (after c g .plan)
+
+-- two joins of plans alike, into the same place
+pub record SameJoin (a b c d : Sized) (place : List ℤ) : Type 0 where
+  pub answer : joining (joinRefusal a b (length place)) (a .lift * b .lift) ≡ joining (joinRefusal c d (length place)) (c .lift * d .lift)
+  pub joined : afterJoin a b place ≡ afterJoin c d place
 
 -- what two plans of the same sizes have in common
 pub record SameAnswers (p q : List ℤ) (rows cols lift : ℕ) : Type 0 where
@@ -51,5 +57,8 @@ pub record SameAnswers (p q : List ℤ) (rows cols lift : ℕ) : Type 0 where
       ≡ laid (lowest (writeRules q rows cols lift byrow bycol place)) (alistText q rows cols lift) place
   pub comparing : (byrow bycol text : List ℕ)
       → comparison (lowest (compareRules p rows cols lift byrow bycol text)) ≡ comparison (lowest (compareRules q rows cols lift byrow bycol text))
-  -- the answer of a change (slip 7) and the lists of weights after it; and the plans after it have the same remainders again
+  -- the answer of a change (slip 7) and the lists of weights after it; and the plans after it have the same remainders again;
   pub changing : (row col : ℕ) (entry : ℤ) (byrow bycol : List ℕ) → SameChange lift (call rows cols lift row col entry) (held p byrow bycol) (held q byrow bycol)
+  -- the answer of joining them with another plan (slip 9), as the first or as the second, and the joined plan
+  pub joining-first : (b : Sized) (place : List ℤ) → SameJoin (sized p rows cols lift) b (sized q rows cols lift) b place
+  pub joining-second : (a : Sized) (place : List ℤ) → SameJoin a (sized p rows cols lift) a (sized q rows cols lift) place

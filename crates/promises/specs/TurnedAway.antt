@@ -1,6 +1,6 @@
 -- The rows of "Turned away" (document 01) and of document 02's slips, by who can cause them: when each number applies, and with which
 -- values. Each row stands here once; the refusals of a call are its rows together (One.antt). Places count from 0.
-use Prim.Native.Nat.{ℕ, suc, _+_, _-_, _*_, _/_, _≤_, _<_, max}
+use Prim.Native.Nat.{ℕ, suc, _+_, _-_, _*_, _/_, _≤_, _<_, _∣_, max}
 use mathlib.Core.Path.{_≡_}
 use mathlib.Core.Logic.{_↔_, _⊎_, _≢_}
 use mathlib.Core.List.{List, [], _∷_}
@@ -19,6 +19,7 @@ use Rattle.weights.specs.declared.Room.{Room}
 use Rattle.square.specs.declared.search.Quad.{Quad}
 use Rattle.square.specs.Table.{tableAt, Repeat, Before}
 use Rattle.square.specs.Mask.{Common}
+use Rattle.crt.specs.Join.{Sized}
 use Rattle.decimal.specs.Decimal.{decimal}
 use Rattle.tokens.specs.declared.Form.{Form}
 use Rattle.tokens.specs.declared.Form.the-variants.{Padded, Unpadded}
@@ -195,10 +196,28 @@ pub data WorkRow (G : Bipartite) (cols lift target places : ℕ) : ℕ → List 
   row-26 : (j : ℕ) → j < cols → (nodes : List (List Node)) → Nodup nodes → ((l : List Node) → Mem l nodes → TreeNode G (j * lift) (target / 2 - 1) l) → places < length nodes
       → WorkRow G cols lift target places 26 []
 
+-- WHO JOINS TWO PLANS (document 02, slip 9). 1 to 6, of a plan and its sizes
+abbrev pub SizedRow : Sized → ℕ → List ℕ → Type 0
+SizedRow a = PlanRow (a .plan) (a .rows) (a .cols) (a .lift)
+
+-- 27: the sizes share a divisor above 1; 28: the plans differ in rows, in columns or in an empty block, −1; 29: the joined place is not
+-- as long as each plan
+pub data JoinRow (a b : Sized) (room : ℕ) : ℕ → List ℕ → Type 0 where
+  row-27 : (d : ℕ) → 1 < d → d ∣ a .lift → d ∣ b .lift → JoinRow a b room 27 []
+  other-rows : a .rows ≢ b .rows → JoinRow a b room 28 []
+  other-cols : a .cols ≢ b .cols → JoinRow a b room 28 []
+  other-block : (p : ℕ) → p < length (a .plan) → ((getD (a .plan) p (pos 0) ≡ negsuc 0) ↔ (getD (b .plan) p (pos 0) ≡ negsuc 0) → ⊥) → JoinRow a b room 28 []
+  row-29 : (room ≢ length (a .plan)) ⊎ (room ≢ length (b .plan)) → JoinRow a b room 29 []
+
 -- ROWS TOGETHER, and the lowest number that applies.
 infixl 1 _or_
 abbrev pub _or_ : (ℕ → List ℕ → Type 0) → (ℕ → List ℕ → Type 0) → ℕ → List ℕ → Type 0
 _or_ A B n l = A n l ⊎ B n l
+
+-- the rows of A, and those of B with a number that no row of A has: where both have it, the values are those of A
+infixl 1 _over_
+abbrev pub _over_ : (ℕ → List ℕ → Type 0) → (ℕ → List ℕ → Type 0) → ℕ → List ℕ → Type 0
+_over_ A B n l = A n l ⊎ (B n l × ((k : List ℕ) → A n k → ⊥))
 
 -- n applies with the values l, no lower number applies, and n with no other values: they are settled
 pub record Lowest (Applies : ℕ → List ℕ → Type 0) (n : ℕ) (l : List ℕ) : Type 0 where

@@ -29,6 +29,8 @@ use Rattle.alist.specs.declared.Comparison.{Comparison}
 use Rattle.alist.specs.declared.Comparison.the-variants.{Agrees, Refused as NotAgreed}
 use Rattle.weights.specs.declared.change.Changed.{Changed as ChangedAnswer}
 use Rattle.weights.specs.declared.change.Changed.the-variants.{Changed, Refused as NotChanged}
+use Rattle.crt.specs.declared.Joining.{Joining}
+use Rattle.crt.specs.declared.Joining.the-variants.{Joined, Refused as NotJoined}
 use Rattle.qcldpc.specs.declared.reply.Reply.{Reply}
 use Rattle.qcldpc.specs.declared.reply.Reply.the-variants.{Refused as Refuses, Nothing, One, Two}
 
@@ -106,6 +108,11 @@ comparedReply (NotAgreed r) = Refuses r
 abbrev pub changedReply : ChangedAnswer → Reply
 changedReply Changed = Nothing
 changedReply (NotChanged r) = Refuses r
+
+-- two plans joined: the joined lift
+abbrev pub joinedReply : Joining → Reply
+joinedReply (Joined lift) = One lift
+joinedReply (NotJoined r) = Refuses r
 
 -- an answer's reply, put into `out`
 abbrev pub gives : {A : Type 0} → (A → Reply) → A → List ℕ → Given

@@ -1,7 +1,7 @@
 // The C interface of the library, for Rust and C: `rt staticlib qcldpc`.
 // Each function returns 0, or the number of a refusal (documents 01 and 02), and puts values into `out` (specs/Door.antt).
 ghost use mathlib.Core.Path.{_≡_};
-ghost use Prim.Native.Nat.{ℕ};
+ghost use Prim.Native.Nat.{ℕ, _*_};
 ghost use lib.ListN.{length};
 ghost use Rattle.refusal.specs.Lowest.{lowest};
 ghost use Rattle.graph.specs.Filling.{erasures};
@@ -26,11 +26,13 @@ ghost use Rattle.weights.specs.Weights.{held};
 ghost use Rattle.weights.specs.Change.{changed, call, refusalOf, after};
 ghost use Rattle.table.specs.Build.{supplyRules, supplied, buildRefusal, afterBuild, built};
 ghost use Rattle.steiner.specs.Build as steiner;
+ghost use Rattle.crt.specs.declared.Joining.{Joining};
+ghost use Rattle.crt.specs.Join.{sized, joinRefusal, joining, afterJoin};
 ghost use Rattle.alist.specs.declared.Written.{Written};
 ghost use Rattle.alist.specs.declared.Comparison.{Comparison};
 ghost use Rattle.alist.specs.Calls.{alistText, writeRules, written, laid, compareRules, comparison};
 ghost use Rattle.qcldpc.specs.declared.reply.Reply.the-variants.{One};
-ghost use Rattle.qcldpc.specs.Door.{Replies, Leaves, KeptUnless0, gives, checkReply, girthReply, verdictReply, fillReply, syndromeReply, builtReply, suppliedReply, writtenReply, comparedReply, changedReply};
+ghost use Rattle.qcldpc.specs.Door.{Replies, Leaves, KeptUnless0, gives, checkReply, girthReply, verdictReply, fillReply, syndromeReply, builtReply, suppliedReply, writtenReply, comparedReply, changedReply, joinedReply};
 use square::supply::Family;
 use weights::change;
 
@@ -291,6 +293,43 @@ pub extern "C" fn qcldpc_change(
         col_weights,
     );
     let r = reply::changed(a);
+    reply::give(r, out)
+}
+
+// Two plans made one: out[0] is the joined lift.
+#[no_mangle]
+pub extern "C" fn qcldpc_join(
+    first: &[i16],
+    rows: u64,
+    cols: u64,
+    lift: u64,
+    second: &[i16],
+    rows2: u64,
+    cols2: u64,
+    lift2: u64,
+    joined: &mut [i16],
+    out: &mut [u64],
+) -> u64
+    ensures answers { λ r. ⌜ Replies Joining (λ a. a ≡ joining (joinRefusal (sized (now (first .entry)) rows cols lift) (sized (now (second .entry)) rows2 cols2 lift2) (length (now (joined .entry)))) (lift * lift2))
+        (gives joinedReply) (now (out .entry)) r (now (out .exit)) ⌝ }
+    ensures leaves { λ _. ⌜ Leaves (now (out .entry)) (afterJoin (sized (now (first .entry)) rows cols lift) (sized (now (second .entry)) rows2 cols2 lift2) (now (joined .entry)))
+        (now (joined .entry)) (now (joined .exit)) ⌝ }
+{
+    if out.len() < PLACES {
+        return NO_ROOM;
+    }
+    let a = crt::join(
+        first,
+        rows as usize,
+        cols as usize,
+        lift as usize,
+        second,
+        rows2 as usize,
+        cols2 as usize,
+        lift2 as usize,
+        joined,
+    );
+    let r = reply::joined(a);
     reply::give(r, out)
 }
 

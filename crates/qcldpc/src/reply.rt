@@ -1,5 +1,6 @@
 use alist::Comparison;
 use alist::Written;
+use crt::Joining;
 use exponent::Validity;
 use girth::GirthTest;
 use girth::Outcome;
@@ -15,7 +16,7 @@ ghost use mathlib.Core.Path.{_≡_};
 ghost use Prim.Native.Nat.{_+_, _≤_};
 ghost use lib.ListN.{length};
 ghost use lib.Seq.{sets};
-ghost use Rattle.qcldpc.specs.Door.{refusal, given, checkReply, witnessReply, girthReply, verdictReply, fillReply, syndromeReply, builtReply, suppliedReply, writtenReply, comparedReply, changedReply};
+ghost use Rattle.qcldpc.specs.Door.{refusal, given, checkReply, witnessReply, girthReply, verdictReply, fillReply, syndromeReply, builtReply, suppliedReply, writtenReply, comparedReply, changedReply, joinedReply};
 
 // What an answer comes to: a refusal; or no number, one or two for the first places of `out`.
 pub enum Reply {
@@ -188,5 +189,15 @@ pub fn changed(c: Changed) -> Reply
     match c {
         Changed::Changed => Reply::Nothing,
         Changed::Refused(r) => Reply::Refused(r),
+    }
+}
+
+// Two plans joined: the joined lift.
+pub fn joined(j: Joining) -> Reply
+    ensures { λ r. ⌜ r ≡ joinedReply j ⌝ }
+{
+    match j {
+        Joining::Joined(lift) => Reply::One(lift),
+        Joining::Refused(r) => Reply::Refused(r),
     }
 }

@@ -11,7 +11,7 @@ use lib.Dec.{ltb}
 use borrow.Author.Tests.{ltb-true}
 use Rattle.refusal.specs.declared.Refusal.{Refusal}
 use Rattle.refusal.specs.Number.{number}
-use Rattle.refusal.specs.Lowest.{Rule, refuse, lowest, rise-from, rising, In, here, later, LowestThat}
+use Rattle.refusal.specs.Lowest.{Rule, refuse, lowest, lower, orElse, rise-from, rising, In, here, later, LowestThat}
 
 some-same : {A : Type 0} (x y : A) → some x ≡ some y → x ≡ y
 some-same x y e = cc
@@ -200,3 +200,17 @@ none-holds (rule ∷ rules) = (
   λ e. let (p, q) = none-first (rule .applies) (rule .refusal) (lowest rules) e in (p, none-holds rules .0 q),
   λ h. rw (h .0) (none-holds rules .1 (h .1)),
 )
+
+-- there is no refusal exactly where there is none of either
+pub lower-none : (a b : Option Refusal) → (lower a b ≡ none) ↔ ((a ≡ none) × (b ≡ none))
+lower-none none b = (λ e. (refl, e), λ h. h .1)
+lower-none (some r) none = (λ e. absurd (Option·none-ne-some r (sym e)), λ h. h .0)
+lower-none (some r) (some s) = (λ e. absurd (refused (ltb (number s) (number r)) e), λ h. absurd (Option·none-ne-some r (sym (h .0))))
+  where
+    refused : (t : Bool) → cond t (some s) (some r) ≡ none → ⊥
+    refused true e = Option·none-ne-some s (sym e)
+    refused false e = Option·none-ne-some r (sym e)
+
+pub orElse-none : (a b : Option Refusal) → (orElse a b ≡ none) ↔ ((a ≡ none) × (b ≡ none))
+orElse-none none b = (λ e. (refl, e), λ h. h .1)
+orElse-none (some r) b = (λ e. absurd (Option·none-ne-some r (sym e)), λ h. h .0)

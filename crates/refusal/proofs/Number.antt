@@ -4,7 +4,7 @@ use mathlib.Core.Path.{_≡_, refl}
 use mathlib.Core.List.{List, [], _∷_, map}
 use native.Mathlib.Omega.{arith}
 use Rattle.refusal.specs.declared.Refusal.{Refusal}
-use Rattle.refusal.specs.declared.Refusal.the-variants.{Rows, Cols, Lift, Bits, PlanLength, Entry, Order, TableLength, NegativeEntry, Unsound, MaskByte, MaskWeight, TableBits, Target, PlanPlace, WordLength, TextPlace, Byte, Erasure, NoSolution, Token, SteinerOrder, SteinerLength, BlockPlace, Weights, WorkPlace}
+use Rattle.refusal.specs.declared.Refusal.the-variants.{Rows, Cols, Lift, Bits, PlanLength, Entry, Order, TableLength, NegativeEntry, Unsound, MaskByte, MaskWeight, TableBits, Target, PlanPlace, WordLength, TextPlace, Byte, Erasure, NoSolution, Token, SteinerOrder, SteinerLength, BlockPlace, Weights, WorkPlace, SharedDivisor, PlansDiffer, JoinedPlace}
 use Rattle.refusal.specs.Number.{number}
 
 -- the cases in order, whatever the values are
@@ -36,13 +36,16 @@ cases v =
     ∷ BlockPlace
     ∷ Weights
     ∷ WorkPlace
+    ∷ SharedDivisor
+    ∷ PlansDiffer
+    ∷ JoinedPlace
     ∷ []
 
-pub numbered : (v : ℕ) → map number (cases v) ≡ 1 ∷ 2 ∷ 3 ∷ 4 ∷ 5 ∷ 6 ∷ 7 ∷ 8 ∷ 9 ∷ 10 ∷ 11 ∷ 12 ∷ 13 ∷ 14 ∷ 15 ∷ 16 ∷ 17 ∷ 18 ∷ 19 ∷ 20 ∷ 21 ∷ 22 ∷ 23 ∷ 24 ∷ 25 ∷ 26 ∷ []
+pub numbered : (v : ℕ) → map number (cases v) ≡ 1 ∷ 2 ∷ 3 ∷ 4 ∷ 5 ∷ 6 ∷ 7 ∷ 8 ∷ 9 ∷ 10 ∷ 11 ∷ 12 ∷ 13 ∷ 14 ∷ 15 ∷ 16 ∷ 17 ∷ 18 ∷ 19 ∷ 20 ∷ 21 ∷ 22 ∷ 23 ∷ 24 ∷ 25 ∷ 26 ∷ 27 ∷ 28 ∷ 29 ∷ []
 numbered v = refl
 
--- so every number is one of 1 to 26
-pub number-range : (r : Refusal) → (1 ≤ number r) × (number r ≤ 26)
+-- so every number is one of 1 to 29
+pub number-range : (r : Refusal) → (1 ≤ number r) × (number r ≤ 29)
 number-range Rows = omega arith
 number-range Cols = omega arith
 number-range Lift = omega arith
@@ -69,3 +72,6 @@ number-range SteinerLength = omega arith
 number-range BlockPlace = omega arith
 number-range Weights = omega arith
 number-range WorkPlace = omega arith
+number-range SharedDivisor = omega arith
+number-range PlansDiffer = omega arith
+number-range JoinedPlace = omega arith

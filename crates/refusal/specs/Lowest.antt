@@ -21,6 +21,17 @@ unfoldable pub lowest : List Rule → Option Refusal
 lowest [] = none
 lowest (rule ∷ rules) = let later = lowest rules in cond (rule .applies) (some (rule .refusal)) later
 
+-- of two refusals the one with the lower number; where the numbers are the same, the first
+abbrev pub lower : Option Refusal → Option Refusal → Option Refusal
+lower none b = b
+lower (some r) none = some r
+lower (some r) (some s) = cond (ltb (number s) (number r)) (some s) (some r)
+
+-- a refusal, or, where there is none, a later one
+abbrev pub orElse : Option Refusal → Option Refusal → Option Refusal
+orElse none later = later
+orElse (some r) later = some r
+
 -- the numbers of the rules rise from n on
 abbrev pub rise-from : ℕ → List Rule → Bool
 rise-from n [] = true

@@ -2,7 +2,7 @@
 use Prim.Native.Nat.{ℕ}
 use mathlib.Core.List.{List, [], _∷_}
 use Rattle.refusal.specs.declared.Refusal.{Refusal}
-use Rattle.refusal.specs.declared.Refusal.the-variants.{Rows, Cols, Lift, Bits, PlanLength, Entry, Order, TableLength, NegativeEntry, Unsound, MaskByte, MaskWeight, TableBits, Target, PlanPlace, WordLength, TextPlace, Byte, Erasure, NoSolution, Token, SteinerOrder, SteinerLength, BlockPlace, Weights, WorkPlace}
+use Rattle.refusal.specs.declared.Refusal.the-variants.{Rows, Cols, Lift, Bits, PlanLength, Entry, Order, TableLength, NegativeEntry, Unsound, MaskByte, MaskWeight, TableBits, Target, PlanPlace, WordLength, TextPlace, Byte, Erasure, NoSolution, Token, SteinerOrder, SteinerLength, BlockPlace, Weights, WorkPlace, SharedDivisor, PlansDiffer, JoinedPlace}
 
 abbrev pub number : Refusal → ℕ
 number Rows = 1
@@ -31,6 +31,9 @@ number SteinerLength = 23
 number BlockPlace = 24
 number Weights = 25
 number WorkPlace = 26
+number SharedDivisor = 27
+number PlansDiffer = 28
+number JoinedPlace = 29
 
 -- a place, the four numbers i, k, r, t of refusal 10, or the length needed
 abbrev pub values : Refusal → List ℕ
@@ -60,3 +63,6 @@ values SteinerLength = []
 values BlockPlace = []
 values Weights = []
 values WorkPlace = []
+values SharedDivisor = []
+values PlansDiffer = []
+values JoinedPlace = []

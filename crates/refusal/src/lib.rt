@@ -44,4 +44,8 @@ pub enum Refusal {
     Weights,
     // 26: the caller who lends a work list.
     WorkPlace,
+    // 27 to 29: the designer who joins two plans, and lends a place for the joined one.
+    SharedDivisor,
+    PlansDiffer,
+    JoinedPlace,
 }

@@ -41,6 +41,9 @@ pub fn number_of(r: Refusal) -> u64
         Refusal::BlockPlace => 24,
         Refusal::Weights => 25,
         Refusal::WorkPlace => 26,
+        Refusal::SharedDivisor => 27,
+        Refusal::PlansDiffer => 28,
+        Refusal::JoinedPlace => 29,
     }
 }
 

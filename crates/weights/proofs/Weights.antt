@@ -81,7 +81,7 @@ module _ (plan : List ℤ) (s : Shape) (side : Side) where
 
   pub weights-at : (lane : ℕ) → lane < lanes s side → getD (weightsOf plan s side) lane 0 ≡ weightOf plan s side lane
   unfolding weightsOf
-  weights-at lane h = getD-map-below (weightOf plan s side) (lanes s side) lane h
+  weights-at lane h = getD-map-below 0 (weightOf plan s side) (lanes s side) lane h
 
   -- a list of the right length and counts is that of the side
   pub weights-by : (l : List ℕ) → length l ≡ lanes s side → ((lane : ℕ) → lane < lanes s side → getD l lane 0 ≡ weightOf plan s side lane)

@@ -39,8 +39,8 @@ impl Draft {
 // The largest entry of 16 bits.
 const LARGEST: usize = i16::MAX as usize;
 
-// An entry that leaves a remainder by the lift: the remainder itself, or with a multiple of the lift added.
-fn printed(random: &Random, remainder: usize, lift: usize) -> i16 {
+/// An entry that leaves a remainder by the lift: the remainder itself, or with a multiple of the lift added.
+pub fn printed(random: &Random, remainder: usize, lift: usize) -> i16 {
     let most = (LARGEST - remainder) / lift;
     (remainder + lift * random.choice(&[0, 0, 1, random.between(0, most), most])) as i16
 }

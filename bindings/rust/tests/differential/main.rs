@@ -7,6 +7,9 @@ mod door;
 mod fill;
 mod girth;
 mod inputs;
+mod join;
+mod join_faults;
+mod joined;
 mod judged;
 mod lent;
 mod owned;
@@ -33,6 +36,7 @@ static PAIRS: LazyLock<Seen> = LazyLock::new(pairs::compare_all);
 static TABLES: LazyLock<Seen> = LazyLock::new(tables::compare_all);
 static STEINER: LazyLock<Seen> = LazyLock::new(steiner::compare_all);
 static CHANGES: LazyLock<Seen> = LazyLock::new(changes::compare_all);
+static JOIN: LazyLock<Seen> = LazyLock::new(join::compare_all);
 static WORDS: LazyLock<Seen> = LazyLock::new(words::compare_all);
 static FILL: LazyLock<Seen> = LazyLock::new(fill::compare_all);
 static COUNT: LazyLock<Seen> = LazyLock::new(count::compare_all);
@@ -74,6 +78,12 @@ fn changed_blocks() {
 }
 
 #[test]
+fn joined_plans() {
+    println!("joined plans: {}", *JOIN);
+    assert_eq!(JOIN.met(), [1, 2, 3, 4, 5, 6, 27, 28, 29]);
+}
+
+#[test]
 fn syndrome_check() {
     println!("syndrome check: {}", *WORDS);
 }
@@ -105,7 +115,7 @@ fn promise_3() {
 // The subjects above are run once each, whichever test asks first.
 #[test]
 fn every_refusal_was_met() {
-    let subjects = [&PLANS, &GIRTH, &PAIRS, &TABLES, &STEINER, &CHANGES, &WORDS, &FILL, &ALIST];
+    let subjects = [&PLANS, &GIRTH, &PAIRS, &TABLES, &STEINER, &CHANGES, &JOIN, &WORDS, &FILL, &ALIST];
     for number in 1..=LAST {
         let times: usize = subjects.iter().map(|seen| seen.refusals(number)).sum();
         assert!(times > 0, "no input met refusal {number}");
@@ -115,7 +125,7 @@ fn every_refusal_was_met() {
 // Every subject that is given voltages meets many at or above the lift.
 #[test]
 fn printed_voltages_were_met() {
-    let plans = [&PLANS, &GIRTH, &PAIRS, &CHANGES, &WORDS, &FILL, &ALIST].map(|seen| (seen, 10000));
+    let plans = [&PLANS, &GIRTH, &PAIRS, &CHANGES, &JOIN, &WORDS, &FILL, &ALIST].map(|seen| (seen, 10000));
     for (seen, least) in plans.into_iter().chain([(&STEINER, 1000), (&PROMISE, 500)]) {
         assert!(seen.printed > least, "only {} results with a voltage at or above the lift", seen.printed);
     }

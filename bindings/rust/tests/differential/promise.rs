@@ -48,8 +48,8 @@ fn part_code(plan: &Draft) -> (usize, Solved) {
     (divisor, code(&Plan { lift: divisor, ..plan.lent() }))
 }
 
-// A code word at a divisor of the lift, repeated in each column: check (i, y) then has the bits of check (i, y mod divisor).
-fn repeated(plan: &Draft, divisor: usize, word: &[u8]) -> Vec<u8> {
+/// A word at a divisor of the lift, repeated in each column: check (i, y) then has the bits of check (i, y mod divisor).
+pub fn repeated(plan: &Draft, divisor: usize, word: &[u8]) -> Vec<u8> {
     (0..plan.bits()).map(|bit| word[bit / plan.lift * divisor + bit % plan.lift % divisor]).collect()
 }
 

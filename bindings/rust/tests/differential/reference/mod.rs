@@ -6,6 +6,7 @@ pub mod fill;
 pub mod gf2;
 pub mod girth;
 pub mod graph;
+pub mod join;
 pub mod pairs;
 pub mod plan;
 pub mod steiner;

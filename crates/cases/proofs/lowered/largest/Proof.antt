@@ -18,8 +18,8 @@ loop-holds c = search needs
 entry-at-requires : tie.Need-entry-at-requires Inv-loop μ-loop
 entry-at-requires c κs = search needs
 
-voltage-requires : tie.Need-voltage-requires Inv-loop μ-loop
-voltage-requires c κs = search needs
+shift-of-requires : tie.Need-shift-of-requires Inv-loop μ-loop
+shift-of-requires c κs = search needs
 
 add-place : tie.Need-add-place Inv-loop μ-loop
 add-place c = search needs
@@ -41,7 +41,7 @@ largest-spec =
     μ-loop
     loop-holds
     entry-at-requires
-    voltage-requires
+    shift-of-requires
     add-place
     loop-less
     loop-again

@@ -1,0 +1,4 @@
+pub mod Remainders
+pub mod Plans
+pub mod Rules
+pub mod Cases
