@@ -1,26 +1,19 @@
--- Numbers by their remainders: where the sizes share no divisor there is a unit, with it the number with two given remainders is found, and
--- it is the only one. Assumes nothing.
-use Prim.Native.Nat.{ℕ, suc, _+_, _-_, _*_, _/_, _%_, _≤_, _<_, _∣_}
-use mathlib.Core.Path.{_≡_, refl, sym, ap, subst, _∙_}
-use mathlib.Core.Logic.{_≢_, _↔_}
-use mathlib.Core.Bool.{Bool, true, false, not, _&&_}
-use mathlib.Core.List.{List, map}
+-- The number with two given remainders, found with the unit of the two sizes, and that it is the only one. Assumes nothing.
+use Prim.Native.Nat.{ℕ, _+_, _-_, _*_, _/_, _%_, _≤_, _<_, _∣_}
+use mathlib.Core.Path.{_≡_, sym, ap, subst, _∙_}
+use mathlib.Core.Bool.{true}
 use native.Mathlib.Omega.{arith}
-use native.Mathlib.Nat.{mod-lt, mod-eq-of-lt, add-mod-mod, mod-mod-of-dvd, mul-add-mod-self-right, add-mod-right, div-add-mod', add-mul, mul-comm, mul-assoc, mul-sub, suc-mul, mul-le-mul-right, mul-le-mul, mul-mod-right, dvd-mul-left, dvd-mul-right, dvd-mul-right-of-dvd, dvd-mul-left-of-dvd, dvd-sub, dvd-mod-iff, dvd-one, le-of-dvd, mod-eq-zero-of-dvd, dvd-of-mod-eq-zero, mul-div-cancel', dvd-of-mul-dvd-mul-left, dvd-trans}
-use borrow.Author.Tests.{eqb-true, eqb-false, eq-eqb, ne-eqb, ltb-true, lt-ltb}
-use lib.Dec.{eqb, ltb}
+use native.Mathlib.Nat.{mod-lt, mod-eq-of-lt, add-mod-mod, mod-mod-of-dvd, mul-add-mod-self-right, add-mod-right, div-add-mod', add-mul, mul-comm, mul-assoc, mul-le-mul-right, mul-le-mul, dvd-mul-left, dvd-mul-right, dvd-mul-right-of-dvd, dvd-mul-left-of-dvd, mod-eq-zero-of-dvd, dvd-of-mod-eq-zero, mul-div-cancel'}
+use borrow.Author.Tests.{eqb-true, eq-eqb}
+use lib.Dec.{eqb}
 use lib.ListN.{getD}
-use Rattle.refusal.specs.Place.{firstPlace}
-use Rattle.refusal.proofs.Place.{first-at, first-le, before-first, at-first}
-use Rattle.graph.specs.Count.{Mem, Nodup, below}
-use Rattle.graph.specs.Erasure.{any}
-use Rattle.graph.proofs.Decide.{both-ways, by-bool, by-eq, by-le, and-left, and-right, and-both}
-use Rattle.graph.proofs.Lists.{getD-nodup, each-image}
-use Rattle.graph.proofs.Count.{length-range, getD-range, nodup-range, count-le, count-full, crowd, getD-map-below, length-map-below}
-use Rattle.graph.proofs.Neighbours.{below-mem, mem-below}
-use Rattle.graph.proofs.Peeling.{any-some, any-true, any-false}
-use Rattle.crt.specs.Remainders.{divides, shared, leaves, remainders}
+use Rattle.refusal.proofs.Place.{first-at}
+use Rattle.graph.specs.Count.{below}
+use Rattle.graph.proofs.Decide.{by-bool, by-le, and-left, and-right, and-both}
+use Rattle.graph.proofs.Count.{length-range, getD-range}
+use Rattle.crt.specs.Remainders.{leaves, remainders}
 use Rattle.crt.specs.Work.{UnitOf}
+use Rattle.crt.proofs.Units.{equal-divides}
 
 -- a factor may be reduced first
 mul-mod : (a k Q : ℕ) → (a * k) % Q ≡ (a % Q * k) % Q
@@ -33,47 +26,24 @@ mul-mod a k Q =
         ∙ add-mul (a / Q * Q) (a % Q) k
         ∙ ap (λ (x : ℕ). x + a % Q * k) (mul-assoc (a / Q) Q k ∙ ap (λ (x : ℕ). a / Q * x) (mul-comm Q k) ∙ sym (mul-assoc (a / Q) k Q))
 
--- numbers with equal remainders differ by a multiple
-equal-divides : (a b P : ℕ) → a ≤ b → a % P ≡ b % P → P ∣ b - a
-equal-divides a b P h e =
-    subst (λ (x : ℕ). P ∣ x) (let r : b / P * P - a / P * P ≡ b - a = omega (arith, div-add-mod' a P, div-add-mod' b P) in r)
-    (dvd-sub P (dvd-mul-left P (b / P)) (dvd-mul-left P (a / P)))
-
--- a divisor above 1 is shared: the test by remainders says so
-pub shared-exactly : (P Q : ℕ) → 0 < P → (shared P Q ≡ true) ↔ ((d : ℕ) × (1 < d) × (d ∣ P) × (d ∣ Q))
-unfolding shared
-shared-exactly P Q some-P = (
-  λ e.
-      let (d, _, t) = any-true (suc P) (divides P Q) e in
-      let both = and-right (ltb 1 d) _ t in (
-        d,
-        ltb-true 1 d (and-left _ (eqb (P % d) 0 && eqb (Q % d) 0) t),
-        dvd-of-mod-eq-zero d (eqb-true (P % d) 0 (and-left _ (eqb (Q % d) 0) both)),
-        dvd-of-mod-eq-zero d (eqb-true (Q % d) 0 (and-right (eqb (P % d) 0) _ both)),
-      ),
-  λ (d, above, p, q).
-      any-some (suc P) (divides P Q) d (omega (arith, le-of-dvd some-P p))
-      (and-both _ _ (lt-ltb 1 d above) (and-both _ _ (eq-eqb (P % d) 0 (mod-eq-zero-of-dvd d p)) (eq-eqb (Q % d) 0 (mod-eq-zero-of-dvd d q)))),
-)
-
-module _ (P Q s : ℕ) (some-P : 0 < P) (some-Q : 0 < Q) (unit : UnitOf P Q s) where
+module _ (P Q u : ℕ) (some-P : 0 < P) (some-Q : 0 < Q) (unit : UnitOf P Q u) where
   -- what the unit does to a factor
-  unit-mod : (k : ℕ) → (s * k) % Q ≡ k % Q
+  unit-mod : (k : ℕ) → (u * k) % Q ≡ k % Q
   unit-mod k =
-      mul-mod s k Q
+      mul-mod u k Q
       ∙ ap (λ (x : ℕ). (x * k) % Q) (unit .leaves-one)
       ∙ sym (mul-mod 1 k Q)
       ∙ ap (λ (x : ℕ). x % Q) (let r : 1 * k ≡ k = omega arith in r)
 
   -- the number with the remainders e and f
   unfoldable pub found : ℕ → ℕ → ℕ
-  found e f = (e + s * (f + (Q - e % Q))) % (P * Q)
+  found e f = (e + u * (f + (Q - e % Q))) % (P * Q)
 
   found-first : (e f : ℕ) → found e f % P ≡ e % P
   unfolding found
   found-first e f =
-      mod-mod-of-dvd P (e + s * (f + (Q - e % Q))) (dvd-mul-right P Q)
-      ∙ sym (add-mod-mod e (s * (f + (Q - e % Q))) P)
+      mod-mod-of-dvd P (e + u * (f + (Q - e % Q))) (dvd-mul-right P Q)
+      ∙ sym (add-mod-mod e (u * (f + (Q - e % Q))) P)
       ∙ ap (λ (x : ℕ). (e + x) % P) (mod-eq-zero-of-dvd P (dvd-mul-right-of-dvd P (dvd-of-mod-eq-zero P (unit .multiple)) (f + (Q - e % Q))))
       ∙ ap (λ (x : ℕ). x % P) (let r : e + 0 ≡ e = omega arith in r)
 
@@ -81,8 +51,8 @@ module _ (P Q s : ℕ) (some-P : 0 < P) (some-Q : 0 < Q) (unit : UnitOf P Q s) w
   unfolding found
   found-second e f =
       let k : ℕ = f + (Q - e % Q) in
-      mod-mod-of-dvd Q (e + s * k) (dvd-mul-left Q P)
-      ∙ sym (add-mod-mod e (s * k) Q)
+      mod-mod-of-dvd Q (e + u * k) (dvd-mul-left Q P)
+      ∙ sym (add-mod-mod e (u * k) Q)
       ∙ ap (λ (x : ℕ). (e + x) % Q) (unit-mod k)
       ∙ add-mod-mod e k Q
       ∙ ap (λ (x : ℕ). x % Q) (let r : e + k ≡ e / Q * Q + (f + Q) = omega (arith, div-add-mod' e Q, mod-lt e some-Q) in r)
@@ -94,9 +64,9 @@ module _ (P Q s : ℕ) (some-P : 0 < P) (some-Q : 0 < Q) (unit : UnitOf P Q s) w
   small-multiple d p q h =
       let a : ℕ = d / P in
       let whole : P * a ≡ d = mul-div-cancel' P p in
-      let m : ℕ = s / P in
-      let s-whole : P * m ≡ s = mul-div-cancel' P (dvd-of-mod-eq-zero P (unit .multiple)) in
-      let turned : s * a ≡ m * d = ap (λ (x : ℕ). x * a) (sym s-whole) ∙ ap (λ (x : ℕ). x * a) (mul-comm P m) ∙ mul-assoc m P a ∙ ap (λ (x : ℕ). m * x) whole in
+      let m : ℕ = u / P in
+      let u-whole : P * m ≡ u = mul-div-cancel' P (dvd-of-mod-eq-zero P (unit .multiple)) in
+      let turned : u * a ≡ m * d = ap (λ (x : ℕ). x * a) (sym u-whole) ∙ ap (λ (x : ℕ). x * a) (mul-comm P m) ∙ mul-assoc m P a ∙ ap (λ (x : ℕ). m * x) whole in
       let zero-mod : a % Q ≡ 0 = sym (unit-mod a) ∙ mod-eq-zero-of-dvd Q (subst (λ (x : ℕ). Q ∣ x) (sym turned) (dvd-mul-left-of-dvd Q q m)) in
       let low : a < Q = by-le Q a (λ l. absurd (omega (arith, mul-le-mul-right P l, mul-comm P a, mul-comm P Q))) (λ l. l) in
       let none : a ≡ 0 = sym (mod-eq-of-lt low) ∙ zero-mod in
@@ -116,7 +86,7 @@ module _ (P Q s : ℕ) (some-P : 0 < P) (some-Q : 0 < Q) (unit : UnitOf P Q s) w
 
   pub found-low : (e f : ℕ) → found e f < P * Q
   unfolding found
-  found-low e f = mod-lt (e + s * (f + (Q - e % Q))) some-product
+  found-low e f = mod-lt (e + u * (f + (Q - e % Q))) some-product
 
   found-leaves : (e f : ℕ) → leaves P Q e f (found e f) ≡ true
   found-leaves e f = and-both _ _ (eq-eqb _ _ (found-first e f)) (eq-eqb _ _ (found-second e f))
@@ -147,93 +117,3 @@ module _ (P Q s : ℕ) (some-P : 0 < P) (some-Q : 0 < Q) (unit : UnitOf P Q s) w
 
   pub remainders-second : (e f : ℕ) → remainders P Q e f % Q ≡ f % Q
   remainders-second e f = rw (found-remainders e f) (found-second e f)
-
-  -- with a unit no divisor is shared
-  pub unit-not-shared : shared P Q ≡ false
-  unit-not-shared =
-      by-bool (shared P Q)
-      (λ t.
-      let (d, above, p, q) = shared-exactly P Q some-P .0 t in
-      let of-s : d ∣ s = dvd-trans d p (dvd-of-mod-eq-zero P (unit .multiple)) in
-      let of-one : d ∣ 1 = dvd-mod-iff d q .0 (subst (λ (x : ℕ). d ∣ x) (unit .leaves-one) (dvd-mod-iff d q .1 of-s)) in
-      absurd (omega (arith, dvd-one .0 of-one)))
-      (λ t. t)
-
--- a multiple of P that leaves 1
-pub is-unit : (P Q k : ℕ) → 0 < P → k < Q → (P * k) % Q ≡ 1 % Q → UnitOf P Q (P * k)
-is-unit P Q k some-P h e =
-    record {
-      multiple = mul-mod-right P k;
-      leaves-one = e;
-      low = omega (arith, mul-le-mul-right P h, suc-mul k P, mul-comm P k, mul-comm P Q);
-    }
-
--- WITHOUT A UNIT a divisor is shared
-
-module _ (P Q : ℕ) (some-P : 0 < P) (some-Q : 0 < Q) (none : (k : ℕ) → k < Q → (P * k) % Q ≢ 1 % Q) where
-  -- suc k is a multiplier that takes P to a multiple of Q
-  closes : ℕ → Bool
-  closes k = eqb ((P * suc k) % Q) 0
-
-  -- where none does below Q, all remainders occur
-  all-occur : ((k : ℕ) → 0 < k → k < Q → (P * k) % Q ≢ 0) → ⊥
-  all-occur never =
-      let f : ℕ → ℕ = λ k. (P * k) % Q in
-      let xs : List ℕ = map f (below Q) in
-      let other : ℕ → Bool = λ x. not (eqb x (1 % Q)) in
-      let distinct : Nodup xs = getD-nodup xs 0 λ i j h l e.
-      let jn : j < Q = omega (arith, length-map-below f Q) in
-      let same : f i ≡ f j = sym (getD-map-below 0 f Q i (omega arith)) ∙ e ∙ getD-map-below 0 f Q j jn in
-      let over = equal-divides (P * i) (P * j) Q (omega (arith, mul-le-mul-right P (let r : i ≤ j = omega arith in r), mul-comm P i, mul-comm P j)) same in
-      never (j - i) (omega arith) (omega arith) (mod-eq-zero-of-dvd Q (subst (λ (x : ℕ). Q ∣ x) (sym (mul-sub P j i)) over)) in
-      let inside : (x : ℕ) → Mem x xs → Mem x (below Q) × (other x ≡ true) =
-      each-image f (λ x. Mem x (below Q) × (other x ≡ true)) (below Q) (λ k m. (below-mem (f k) Q (mod-lt (P * k) some-Q), ap not (ne-eqb (f k) (1 % Q) (none k (mem-below k Q m))))) in
-      let many = crowd xs other (below Q) (nodup-range 0 Q) distinct inside in
-      let full = count-full other (λ x. true) (below Q) (λ x e. refl) (omega (arith, count-le (λ x. true) (below Q), length-range 0 Q, length-map-below f Q)) (1 % Q) (below-mem (1 % Q) Q (mod-lt 1 some-Q)) refl in
-      both-ways full (ap not (eq-eqb (1 % Q) (1 % Q) refl))
-
-  -- the least one shows the divisor
-  module _ (k : ℕ) (some-k : 0 < k) (low : k < Q) (closed : (P * k) % Q ≡ 0) (least : (i : ℕ) → 0 < i → i < k → (P * i) % Q ≢ 0) where
-    whole : k ∣ Q
-    whole =
-        let r : ℕ = Q % k in
-        let over : Q ∣ P * r =
-        subst (λ (x : ℕ). Q ∣ x) (let e : P * Q - P * (Q / k * k) ≡ P * r = sym (mul-sub P Q (Q / k * k)) ∙ ap (λ (x : ℕ). P * x) (omega (arith, div-add-mod' Q k)) in e)
-        (dvd-sub Q (dvd-mul-left Q P)
-        (subst (λ (x : ℕ). Q ∣ x) (let e : Q / k * (P * k) ≡ P * (Q / k * k) = sym (mul-assoc (Q / k) P k) ∙ ap (λ (x : ℕ). x * k) (mul-comm (Q / k) P) ∙ mul-assoc P (Q / k) k in e)
-        (dvd-mul-left-of-dvd Q (dvd-of-mod-eq-zero Q closed) (Q / k)))) in
-        dvd-of-mod-eq-zero k
-        (by-eq (Q % k) 0 (λ e. e) (λ e. absurd (least r (omega arith) (mod-lt Q some-k) (mod-eq-zero-of-dvd Q over))))
-
-    shows : shared P Q ≡ true
-    shows =
-        let d : ℕ = Q / k in
-        let product : k * d ≡ Q = mul-div-cancel' k whole in
-        let of-Q : d ∣ Q = subst (λ (x : ℕ). d ∣ x) product (dvd-mul-left d k) in
-        let of-P : d ∣ P = dvd-of-mul-dvd-mul-left d some-k (subst (λ (x : ℕ). x ∣ k * P) (sym product) (subst (λ (x : ℕ). Q ∣ x) (mul-comm P k) (dvd-of-mod-eq-zero Q closed))) in
-        let above : 1 < d = by-le d 1 (λ h. absurd (omega (arith, product, mul-le-mul-right k h, mul-comm k d))) (λ h. h) in
-        shared-exactly P Q some-P .1 (d, above, of-P, of-Q)
-
-  pub none-shared : shared P Q ≡ true
-  unfolding closes
-  none-shared =
-      let n : ℕ = firstPlace closes (below (Q - 1)) in
-      let at : (i : ℕ) → i < Q - 1 → getD (below (Q - 1)) i 0 ≡ i = λ i h. omega (arith, getD-range 0 (Q - 1) i h) in
-      let few : n ≤ Q - 1 = omega (arith, first-le closes 0 (below (Q - 1)), length-range 0 (Q - 1)) in
-      let before : (i : ℕ) → 0 < i → i < suc n → (P * i) % Q ≢ 0 = λ i p h.
-      let t = before-first closes 0 (below (Q - 1)) (i - 1) (omega arith) in
-      let e = rw (at (i - 1) (omega arith)) at t in
-      subst (λ (x : ℕ). (P * x) % Q ≢ 0) (let r : suc (i - 1) ≡ i = omega arith in r) (eqb-false ((P * suc (i - 1)) % Q) 0 e) in
-      by-le (Q - 1) n
-      (λ h. absurd (all-occur (λ k p l. before k p (omega arith))))
-      (λ h.
-      let t = at-first closes 0 (below (Q - 1)) (omega (arith, length-range 0 (Q - 1))) in
-      let e = rw (at n h) at t in
-      shows (suc n) (omega arith) (omega arith) (eqb-true ((P * suc n) % Q) 0 e) before)
-
--- where no divisor is shared there is a unit
-pub unit-of : (P Q : ℕ) → 0 < P → 0 < Q → shared P Q ≡ false → (u : ℕ) × UnitOf P Q u
-unit-of P Q some-P some-Q coprime =
-    by-bool (any Q (λ k. eqb ((P * k) % Q) (1 % Q)))
-    (λ e. let (k, low, t) = any-true Q (λ k. eqb ((P * k) % Q) (1 % Q)) e in (P * k, is-unit P Q k some-P low (eqb-true ((P * k) % Q) (1 % Q) t)))
-    (λ e. both-ways (none-shared P Q some-P some-Q (λ k h. eqb-false ((P * k) % Q) (1 % Q) (any-false Q (λ k. eqb ((P * k) % Q) (1 % Q)) e k h))) coprime)

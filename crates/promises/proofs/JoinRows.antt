@@ -17,7 +17,7 @@ use Rattle.exponent.proofs.Rules as plan-rules
 use Rattle.crt.specs.Remainders.{shared}
 use Rattle.crt.specs.Join.{Sized, planRefusal, atProduct, bothRefusal, differ, joinRules, joinRefusal}
 use Rattle.crt.specs.Work.{Both}
-use Rattle.crt.proofs.Remainders.{shared-exactly}
+use Rattle.crt.proofs.Units.{shared-exactly}
 use Rattle.crt.proofs.Rules.{rules-rise, both-formed, rows-differ, cols-differ, blocks-differ}
 use Rattle.promises.specs.TurnedAway.{PlanRow, row-1, row-2, of-lift, row-3, row-4, row-5, row-6, SizedRow, JoinRow, row-27, other-rows, other-cols, other-block, row-29, _or_, _over_, LowestOf}
 use Rattle.promises.proofs.Matching.{Listed, RowOf, Matches, lowest-of, by-rule, no-rule, at-rule, further}

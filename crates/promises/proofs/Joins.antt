@@ -32,7 +32,8 @@ use Rattle.crt.specs.declared.Joining.the-variants.{Joined}
 use Rattle.crt.specs.Remainders.{remainders}
 use Rattle.crt.specs.Join.{joinedEntry, joinedPlan, Sized, joinRefusal, joining}
 use Rattle.crt.specs.Work.{UnitOf}
-use Rattle.crt.proofs.Remainders.{unit-of, only-number, remainders-low, remainders-first, remainders-second}
+use Rattle.crt.proofs.Units.{unit-of}
+use Rattle.crt.proofs.Remainders.{only-number, remainders-low, remainders-first, remainders-second}
 use Rattle.crt.proofs.Plans.{joined-at, same-filled, first-passes, second-passes, joined-formed}
 use Rattle.crt.proofs.Rules.{Joinable, joinable, same-lengths}
 use Rattle.promises.specs.Two.{Passing}

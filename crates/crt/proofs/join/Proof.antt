@@ -9,7 +9,8 @@ use Rattle.refusal.specs.declared.Refusal.{Refusal}
 use Rattle.refusal.specs.Lent.{lent}
 use Rattle.crt.specs.Join.{Sized, sized, joinedPlan, joinRefusal, joining, afterJoin}
 use Rattle.crt.specs.Work.{UnitOf}
-use Rattle.crt.proofs.Rules.{Joinable, joinable, same-lengths, lifts, verdict-refused, verdict-accepted}
+use Rattle.crt.proofs.Rules.{Joinable, joinable, same-lengths}
+use Rattle.crt.proofs.Judging.{lifts, verdict-refused, verdict-accepted}
 use Rattle.crt.proofs.join.Statement.{statement}
 use Rattle.crt.proofs.join.Tie as tie
 

@@ -7,7 +7,8 @@ use Rattle.refusal.specs.Lowest.{lowest, orElse}
 use Rattle.exponent.proofs.Rules.{valid-none, refused-some}
 use Rattle.crt.specs.Join.{Sized, bothRefusal, joinRules, joinRefusal}
 use Rattle.crt.specs.Work.{shaped, refused}
-use Rattle.crt.proofs.Rules.{both-formed, none-before}
+use Rattle.crt.proofs.Rules.{both-formed}
+use Rattle.crt.proofs.Judging.{none-before}
 use Rattle.crt.proofs.judge.judge.Statement.{statement}
 use Rattle.crt.proofs.judge.judge.Tie as tie
 

@@ -5,7 +5,7 @@ use Rattle.exponent.specs.Limits.{validity}
 use Rattle.refusal.specs.Lowest.{lower}
 use Rattle.crt.specs.Join.{planRefusal, atProduct, bothRefusal}
 use Rattle.crt.specs.Work.{shaped}
-use Rattle.crt.proofs.Rules.{lower-told}
+use Rattle.crt.proofs.Judging.{lower-told}
 use Rattle.crt.proofs.judge.judge_both.Statement.{statement}
 use Rattle.crt.proofs.judge.judge_both.Tie as tie
 

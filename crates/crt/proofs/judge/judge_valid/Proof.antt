@@ -5,8 +5,9 @@ use borrow.Author.Needs.{needs}
 use Rattle.crt.specs.Remainders.{shared}
 use Rattle.crt.specs.Join.{Sized}
 use Rattle.crt.specs.Work.{shaped, refused, accepted}
-use Rattle.crt.proofs.Remainders.{unit-not-shared}
-use Rattle.crt.proofs.Rules.{found-nothing, found-at, alike, same-lengths, refused-27, refused-28, refused-29, none-refused}
+use Rattle.crt.proofs.Units.{unit-not-shared}
+use Rattle.crt.proofs.Judging.{found-nothing, found-at}
+use Rattle.crt.proofs.Rules.{alike, same-lengths, refused-27, refused-28, refused-29, none-refused}
 use Rattle.crt.proofs.judge.judge_valid.Statement.{statement}
 use Rattle.crt.proofs.judge.judge_valid.Tie as tie
 
@@ -34,7 +35,7 @@ coprime : (c : tie.After-u) → shared (c .before .before .before .args .s .lift
 coprime c =
     let f = c .before .before in
     let s = f .before in
-    unit-not-shared _ _ _ (s .pre .one .some-lift) (s .pre .two .some-lift) (found-at _ (f .find .ensures) (c .u .given .1))
+    unit-not-shared _ _ _ (s .pre .one .some-lift) (found-at _ (f .find .ensures) (c .u .given .1))
 
 returns : tie.Need-returns
 returns c =

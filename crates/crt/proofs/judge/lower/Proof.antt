@@ -14,7 +14,7 @@ use Rattle.exponent.specs.declared.Validity.{Validity}
 use Rattle.exponent.specs.Limits.{validity}
 use Rattle.exponent.specs.declared.Validity.the-variants.{Refused}
 use Rattle.crt.specs.Work.{refusalIn}
-use Rattle.crt.proofs.Rules.{validity-in}
+use Rattle.crt.proofs.Judging.{validity-in}
 use Rattle.crt.proofs.judge.lower.Statement.{statement}
 use Rattle.crt.proofs.judge.lower.Tie as tie
 

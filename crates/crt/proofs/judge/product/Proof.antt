@@ -3,7 +3,7 @@ use Prim.Native.Nat.{_≤_}
 use native.Mathlib.Nat.{mul-le-mul}
 use native.Mathlib.Omega.{arith}
 use mathlib.Core.Path.{refl}
-use Rattle.crt.proofs.Rules.{first-large, second-large}
+use Rattle.crt.proofs.Judging.{first-large, second-large}
 use Rattle.crt.proofs.judge.product.Statement.{statement}
 use Rattle.crt.proofs.judge.product.Tie as tie
 

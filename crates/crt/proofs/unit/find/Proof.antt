@@ -7,7 +7,7 @@ use native.Mathlib.Omega.{arith}
 use native.Mathlib.Nat.{mul-le-mul}
 use borrow.Author.Count.{below-none, below-more}
 use Rattle.crt.specs.Work.{nothing, at}
-use Rattle.crt.proofs.Remainders.{is-unit, none-shared}
+use Rattle.crt.proofs.Units.{is-unit, none-shared}
 use Rattle.crt.proofs.unit.find.Statement.{statement}
 use Rattle.crt.proofs.unit.find.Tie as tie
 

@@ -14,7 +14,7 @@ use Rattle.square.specs.Table.{block}
 use Rattle.crt.specs.Remainders.{remainders}
 use Rattle.crt.specs.Join.{joinedEntry}
 use Rattle.crt.specs.Work.{JoinedTo}
-use Rattle.crt.proofs.Rules.{joined-more, joined-all}
+use Rattle.crt.proofs.Written.{joined-more, joined-all}
 use Rattle.crt.proofs.write.write.Statement.{statement}
 use Rattle.crt.proofs.write.write.Tie as tie
 
