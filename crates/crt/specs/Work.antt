@@ -51,14 +51,14 @@ refusalIn (validity-answer.Refused r) = some r
 abbrev pub AsProduct : ℕ → ℕ → ℕ → Type 0
 AsProduct P Q n = (plan : List ℤ) (rows cols : ℕ) → lowest (planRules plan rows cols n) ≡ lowest (planRules plan rows cols (P * Q))
 
-abbrev pub Valid : Sized → Type 0
-Valid a = WellFormed (a .plan) (a .rows) (a .cols) (a .lift)
+abbrev pub Formed : Sized → Type 0
+Formed a = WellFormed (a .plan) (a .rows) (a .cols) (a .lift)
 
 -- two plans that none of 1 to 6 falls on
 pub record Both (a b : Sized) : Type 0 where
-  pub one : Valid a
-  pub two : Valid b
-  pub product : Valid (atProduct a b)
+  pub one : Formed a
+  pub two : Formed b
+  pub product : Formed (atProduct a b)
 
 -- a verdict: the refusal, or, where there is none, the unit
 pub data Judges (refusal : Option Refusal) (P Q : ℕ) : Verdict → Type 0 where

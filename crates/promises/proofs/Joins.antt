@@ -37,7 +37,7 @@ use Rattle.crt.proofs.Remainders.{only-number, remainders-low, remainders-first
 use Rattle.crt.proofs.Plans.{joined-at, same-filled, first-passes, second-passes, joined-formed}
 use Rattle.crt.proofs.Rules.{Joinable, joinable, same-lengths}
 use Rattle.promises.specs.Two.{Passing}
-use Rattle.promises.specs.Joins.{JoinedAt, empty, filled as is-filled, Passes-test, Joins, JoinedPlans}
+use Rattle.promises.specs.Joins.{JoinedAt, empty, filled as is-filled, TestPassed, Joins, JoinedPlans}
 use Rattle.promises.proofs.Two.{verdict}
 
 -- two valid entries that are alike, and the joined one
@@ -117,21 +117,21 @@ module _ (a b : Sized) (room : ℕ) (accepted : joinRefusal a b room ≡ none) w
       (rw (known .like .same-rows, known .like .same-cols) h)
 
   -- a test that a plan passes says that its graph does, and that the target is allowed
-  passing : (c : Sized) (target : ℕ) → Passes-test c target
+  passing : (c : Sized) (target : ℕ) → TestPassed c target
       → (lowest (refuse Target (not (allowed target)) ∷ []) ≡ none) × Passes (tanner (c .plan) (c .rows) (c .cols) (c .lift)) target
   unfolding testRules
   passing c target p =
       let (e, h) = verdict (c .plan) (c .rows) (c .cols) (c .lift) target (p .answer) .passed .0 (p .passed) in
       (none-append (planRules (c .plan) (c .rows) (c .cols) (c .lift)) (refuse Target (not (allowed target)) ∷ []) .0 e .1, h)
 
-  test-passes : (target : ℕ) → Passes-test a target ⊎ Passes-test b target → Passing plan (a .rows) (a .cols) (P * Q) target
+  test-passes : (target : ℕ) → TestPassed a target ⊎ TestPassed b target → Passing plan (a .rows) (a .cols) (P * Q) target
   unfolding testRules
   test-passes target p r answer =
       let (allow, h) = either p in
       verdict plan (a .rows) (a .cols) (P * Q) target answer .passed .1
       (none-append (planRules plan (a .rows) (a .cols) (P * Q)) (refuse Target (not (allowed target)) ∷ []) .1 (plan-rules.accepted plan (a .rows) (a .cols) (P * Q) .1 well-formed, allow), graph-passes target h)
     where
-      either : Passes-test a target ⊎ Passes-test b target
+      either : TestPassed a target ⊎ TestPassed b target
           → (lowest (refuse Target (not (allowed target)) ∷ []) ≡ none) × (Passes (tanner (a .plan) (a .rows) (a .cols) P) target ⊎ Passes (tanner (b .plan) (b .rows) (b .cols) Q) target)
       either (inl p) = let (allow, h) = passing a target p in (allow, inl h)
       either (inr p) = let (allow, h) = passing b target p in (allow, inr h)

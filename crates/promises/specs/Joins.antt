@@ -25,7 +25,7 @@ pub data JoinedAt (P Q : ℕ) : ℤ → ℤ → ℤ → Type 0 where
       → JoinedAt P Q (pos e) (pos f) (pos x)
 
 -- the girth test answers that the plan passes
-pub record Passes-test (a : Sized) (target : ℕ) : Type 0 where
+pub record TestPassed (a : Sized) (target : ℕ) : Type 0 where
   pub test : GirthTest
   pub answer : Answer (a .plan) (a .rows) (a .cols) (a .lift) target test
   pub passed : test .outcome ≡ Passed
@@ -39,7 +39,7 @@ pub record Joins (a b : Sized) (plan : List ℤ) : Type 0 where
   -- where either plan passes at a target, this one does: of the graphs, and by the answers of the girth test
   pub graph-passes : (t : ℕ) → Passes (tanner (a .plan) (a .rows) (a .cols) (a .lift)) t ⊎ Passes (tanner (b .plan) (b .rows) (b .cols) (b .lift)) t
       → Passes (tanner plan (a .rows) (a .cols) (a .lift * b .lift)) t
-  pub test-passes : (target : ℕ) → Passes-test a target ⊎ Passes-test b target → Passing plan (a .rows) (a .cols) (a .lift * b .lift) target
+  pub test-passes : (target : ℕ) → TestPassed a target ⊎ TestPassed b target → Passing plan (a .rows) (a .cols) (a .lift * b .lift) target
 
 -- wherever the call answers that it joined, of what its lent place then holds: the lift is P × Q
 abbrev pub JoinedPlans : Type 0

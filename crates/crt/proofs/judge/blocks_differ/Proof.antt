@@ -16,6 +16,10 @@ Inv-loop first p second q place₀ place = (place ≤ length first) × (any plac
 abbrev μ-loop : tie.MeasureT-loop
 μ-loop first p second q place₀ place = length first - place
 
+-- the loop's test, from behind that of the blocks
+abbrev within : tie.After-is-filled2 Inv-loop μ-loop → tie.In-loop Inv-loop μ-loop
+within c = c .before .before .before .before
+
 -- the code's two tests are those of the entries
 tested : (c : tie.After-is-filled2 Inv-loop μ-loop) → let e = c .before .before in
     let l = e .before .before .before in
@@ -42,7 +46,7 @@ is-filled-requires-2 : tie.Need-is-filled-requires-2 Inv-loop μ-loop
 is-filled-requires-2 c κs = tt
 
 returns : tie.Need-returns Inv-loop μ-loop
-returns c = let l = c .before .before .before .before .before in sym (any-some _ _ _ (l .loop-test .taken) (tested (c .before) ∙ c .if1 .taken))
+returns c = sym (any-some _ _ _ (within (c .before) .loop-test .taken) (tested (c .before) ∙ c .if1 .taken))
 
 add-place : tie.Need-add-place Inv-loop μ-loop
 add-place c = omega arith
@@ -51,7 +55,7 @@ loop-less : tie.Need-loop-less Inv-loop μ-loop
 loop-less c = omega arith
 
 loop-again : tie.Need-loop-again Inv-loop μ-loop
-loop-again c = let l = c .before .before .before .before .before in (omega arith, any-more _ _ (l .before .loop .inv .1) (tested (c .before) ∙ c .if1 .left))
+loop-again c = (omega arith, any-more _ _ (within (c .before) .before .loop .inv .1) (tested (c .before) ∙ c .if1 .left))
 
 returns-2 : tie.Need-returns-2 Inv-loop μ-loop
 returns-2 c =

@@ -40,16 +40,22 @@ shift-small c =
       omega (arith, f, shift-of-low (s .args .q) (getD (s .args .second .now) (l .before .loop .place) (pos 0)) (z .some-Q), mul-le-mul (z .some-P) low-q, z .small-product),
     )
 
+-- both entries and the loop, from behind what is written
+abbrev both : tie.After-make Inv-loop μ-loop → tie.After-entry-at2 Inv-loop μ-loop
+both c = c .before .before .before .before .before
+
+abbrev loop : tie.After-make Inv-loop μ-loop → tie.At-loop Inv-loop μ-loop
+loop c = both c .before .before .before
+
 -- what is written is the joined entry
-entry : (c : tie.After-make Inv-loop μ-loop) → let b = c .before .before .before .before .before in
-    let l = b .before .before .before in
+entry : (c : tie.After-make Inv-loop μ-loop) → let l = loop c in
     let a = l .before .args in
     c .make .result ≡ joinedEntry (a .p) (a .q) (entryAt (a .first .now) (a .p) (l .loop .place)) (entryAt (a .second .now) (a .q) (l .loop .place))
 entry c =
     let f = c .before in
     let y = f .before .before in
-    let b = y .before .before in
-    let a = b .before .before .before .before .args in
+    let b = both c in
+    let a = loop c .before .args in
     c .make .ensures
     ∙ ap₂ block (f .is-filled .ensures) (f .before .remainder .ensures .0 ∙ ap₂ (remainders (a .p) (a .q)) (y .before .shift-of .ensures) (y .shift-of2 .ensures))
     ∙ ap₂ (joinedEntry (a .p) (a .q)) (b .before .entry-at .ensures) (b .entry-at2 .ensures)
@@ -82,7 +88,7 @@ mul-t13 : tie.Need-mul-t13 Inv-loop μ-loop
 mul-t13 c = search needs
 
 slice-set-from-joined : tie.Need-slice-set-from-joined Inv-loop μ-loop
-slice-set-from-joined c = let b = c .before .before .before .before .before in omega (arith, b .before .before .before .loop .inv .1 .long)
+slice-set-from-joined c = omega (arith, loop c .loop .inv .1 .long)
 
 add-place : tie.Need-add-place Inv-loop μ-loop
 add-place c = search needs
@@ -92,8 +98,7 @@ loop-less c = omega arith
 
 loop-again : tie.Need-loop-again Inv-loop μ-loop
 loop-again c =
-    let b = c .before .before .before .before .before in
-    let l = b .before .before .before in
+    let l = loop c in
     let a = l .before .args in
     let e : toZ w16 (ofZ w16 (c .make .result)) ≡ c .make .result = search needs in (
       omega arith,
