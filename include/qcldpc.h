@@ -1,4 +1,4 @@
-/* Quasi-cyclic LDPC plans: the fifteen functions of libqcldpc.a (`rt staticlib qcldpc`), for C99 on x86-64. A program is
+/* Quasi-cyclic LDPC plans: the sixteen functions of libqcldpc.a (`rt staticlib qcldpc`), for C99 on x86-64. A program is
  * linked with them by `-L target/staticlib -lqcldpc`.
  *
  * A plan is rows x cols numbers, row by row: -1 is a zero (empty) block, e from 0 to 32,767 the identity with its rows
@@ -18,8 +18,9 @@
  * entry below -1. 24 is a row or column outside the plan; 25, looked at last, a list of weights of the wrong length or, unless
  * the call builds the plan, with a wrong count; 26, looked at last, a work list with too few places; 27 to 29, of two valid
  * plans to be joined, lifts with a common divisor above 1, plans that differ in rows, columns or empty blocks, and a place for
- * the joined plan that is not as long as each plan. Places of `out` that are not named for an answer keep what was in them.
- * `out` needs QCLDPC_OUT places; with fewer, every function returns QCLDPC_NO_ROOM and changes nothing.
+ * the joined plan that is not as long as each plan; 30, of a valid plan by which data are to be encoded, another shape than the
+ * bi-diagonal one; 31 data of the wrong length or with a byte above 1. Places of `out` that are not named for an answer keep
+ * what was in them. `out` needs QCLDPC_OUT places; with fewer, every function returns QCLDPC_NO_ROOM and changes nothing.
  *
  * Nothing is asked of numbers and bytes. Each pointer points to as many elements as the length behind it says (none are
  * read or written where that is 0), and memory that a function writes overlaps no other memory lent in the same call.
@@ -120,6 +121,16 @@ uint64_t qcldpc_change(int16_t *plan, size_t plan_len, uint64_t rows, uint64_t c
 uint64_t qcldpc_join(const int16_t *first, size_t first_len, uint64_t rows, uint64_t cols, uint64_t lift,
                      const int16_t *second, size_t second_len, uint64_t rows2, uint64_t cols2, uint64_t lift2,
                      int16_t *joined, size_t joined_len, uint64_t *out, size_t out_len);
+
+/* Encodes data bits by a bi-diagonal plan. Such a plan has m rows, m at least 3, and at least m + 1 columns. Column k, for k
+ * from 0 to m - 2, has the remainder 0 by the lift in rows k and k + 1 and no other filled block; column m - 1 has exactly
+ * three filled blocks, of which at least two have the same remainder. The other columns may have any blocks. They carry the
+ * data: (cols - m) * lift bytes, each 0 or 1, which become the bits from number m * lift on, in the same order. `word` has
+ * exactly cols x lift bytes; it is filled in, whatever stood there, with the only codeword that has those data bits. Refusals
+ * 1 to 6, 16, 30 where the plan has not this shape, 31 where `data` has another length or a byte above 1. A result puts nothing
+ * into `out`. */
+uint64_t qcldpc_encode(const int16_t *plan, size_t plan_len, uint64_t rows, uint64_t cols, uint64_t lift,
+                       const uint8_t *data, size_t data_len, uint8_t *word, size_t word_len, uint64_t *out, size_t out_len);
 
 /* Writes the alist text of a plan, padded; bytes past it stay. Refusals 1 to 6, 17 (so an empty place asks for the length,
  * whatever the weights are), 25. out[0] is the text's length. */

@@ -1,4 +1,4 @@
-/* Calls each of the fifteen functions from C. Says which line is wrong, or "c: 15 functions answer". */
+/* Calls each of the sixteen functions from C. Says which line is wrong, or "c: 16 functions answer". */
 #include "qcldpc.h"
 
 #include <stdio.h>
@@ -281,6 +281,68 @@ static void joins(void)
     EXPECT(qcldpc_join(bad + 1, 3, 1, 3, 3, bad, 4, 2, 2, 4, joined, 4, out, QCLDPC_OUT) == 6 && out[0] == 0);
 }
 
+/* A bi-diagonal plan: of column 2, rows 0 and 2 have the remainder 1 by 3, and row 1 has 0; 3 and 9 leave 0, and 7 leaves 1. */
+static const int16_t bidiagonal[12] = {
+    0, -1, 1, 0,
+    3, 9, 0, -1,
+    -1, 0, 7, 2,
+};
+
+/* A plan of three rows, at lift 3, and data bits; the word, of so many bytes, holds 7 before the call. */
+static uint8_t frame[13];
+
+static uint64_t encode(const int16_t *entries, uint64_t cols, const uint8_t *data, size_t data_len, size_t word_len)
+{
+    memset(frame, 7, sizeof frame);
+    return qcldpc_encode(entries, 3 * cols, 3, cols, 3, data, data_len, frame, word_len, out, QCLDPC_OUT);
+}
+
+/* Whether the word is as it was before the call. */
+static int still_seven(void)
+{
+    for (size_t k = 0; k < sizeof frame; k++)
+        if (frame[k] != 7)
+            return 0;
+    return 1;
+}
+
+static void encodings(void)
+{
+    const uint8_t first[3] = {1, 0, 0}, both[3] = {1, 1, 0}, two[3] = {1, 0, 2};
+    out[0] = 5;
+    EXPECT(encode(bidiagonal, 4, first, 3, 12) == 0 && memcmp(frame, "\0\0\1\1\1\1\1\1\0\1\0\0\7", 13) == 0 && out[0] == 5);
+    EXPECT(qcldpc_syndrome(bidiagonal, 12, 3, 4, 3, frame, 12, out, QCLDPC_OUT) == 0 && out[0] == 0);
+    EXPECT(encode(bidiagonal, 4, both, 3, 12) == 0 && memcmp(frame, "\1\0\1\0\0\0\1\0\1\1\1\0\7", 13) == 0);
+    EXPECT(encode(bidiagonal, 4, first, 3, 11) == 16 && encode(bidiagonal, 4, two, 3, 13) == 16 && still_seven());
+    EXPECT(encode(bidiagonal, 4, first, 2, 12) == 31 && encode(bidiagonal, 4, NULL, 0, 12) == 31 && still_seven());
+    EXPECT(encode(bidiagonal, 4, two, 3, 12) == 31 && still_seven());
+}
+
+/* One entry of the bi-diagonal plan is another; the last data byte is this. */
+static uint64_t encode_with(size_t place, int16_t entry, uint8_t last)
+{
+    const uint8_t data[3] = {1, 0, last};
+    int16_t changed[12];
+    memcpy(changed, bidiagonal, sizeof changed);
+    changed[place] = entry;
+    return encode(changed, 4, data, 3, 12);
+}
+
+static void other_shapes(void)
+{
+    const int16_t no_data[9] = {0, -1, 1, 0, 0, 0, -1, 0, 1};
+    const uint8_t bits[2] = {1, 0};
+    /* on the two diagonals: a block that leaves 1, none, one beside them; and one that leaves 0 */
+    EXPECT(encode_with(4, 4, 0) == 30 && encode_with(9, -1, 2) == 30 && encode_with(1, 0, 0) == 30 && still_seven());
+    EXPECT(encode_with(9, 32766, 2) == 31 && still_seven() && encode_with(9, 32766, 0) == 0);
+    /* in column 2: three remainders, two blocks; and two other blocks that leave the same */
+    EXPECT(encode_with(10, 5, 0) == 30 && encode_with(6, -1, 0) == 30 && still_seven() && encode_with(10, 3, 0) == 0);
+    EXPECT(encode_with(4, -2, 2) == 6 && out[0] == 4 && still_seven());
+    /* no column of data, and one row */
+    EXPECT(encode(no_data, 3, NULL, 0, 9) == 30 && still_seven());
+    EXPECT(qcldpc_encode(plan, 2, 1, 2, 2, bits, 2, frame, 4, out, QCLDPC_OUT) == 30 && still_seven());
+}
+
 /* The plan's alist, in a place of 64 bytes; with its first so many row and column weights. */
 static uint8_t text[64];
 
@@ -336,12 +398,14 @@ static void unpadded_texts(void)
 
 static void too_small_an_out(void)
 {
-    uint8_t word[4] = {1, 0, 0, 2};
+    uint8_t word[4] = {1, 0, 0, 2}, encoded[12] = {7};
+    const uint8_t data[3] = {1, 0, 0};
     int16_t place[2] = {5, 5};
     out[0] = 5;
     EXPECT(qcldpc_fill(plan, 2, 1, 2, 2, word, 4, out, QCLDPC_OUT - 1) == QCLDPC_NO_ROOM);
     EXPECT(qcldpc_join(plan, 2, 1, 2, 2, plan, 2, 1, 2, 3, place, 2, out, QCLDPC_OUT - 1) == QCLDPC_NO_ROOM);
-    EXPECT(out[0] == 5 && word[3] == 2 && place[0] == 5 && place[1] == 5);
+    EXPECT(qcldpc_encode(bidiagonal, 12, 3, 4, 3, data, 3, encoded, 12, out, QCLDPC_OUT - 1) == QCLDPC_NO_ROOM);
+    EXPECT(out[0] == 5 && word[3] == 2 && place[0] == 5 && place[1] == 5 && encoded[0] == 7);
 }
 
 int main(void)
@@ -356,10 +420,12 @@ int main(void)
     triples();
     changes();
     joins();
+    encodings();
+    other_shapes();
     texts();
     unpadded_texts();
     too_small_an_out();
     if (!wrong)
-        puts("c: 15 functions answer");
+        puts("c: 16 functions answer");
     return wrong;
 }

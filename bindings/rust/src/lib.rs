@@ -24,6 +24,8 @@
 //! assert_eq!(fill(&plan, &mut dirty), Err(Refusal { number: 18, values: vec![8] }));
 //! ```
 //!
+//! By a plan of the bi-diagonal shape [`encode`] makes the codeword of given data bits.
+//!
 //! Beside a plan lie its weights, two lists: how many filled blocks each row has, and how many each column has. The calls that
 //! build a table or triple plan fill them, [`change`] keeps them true, and the calls for alist text read them; those of the
 //! first plan are those of a joined one. An [`OwnedPlan`] has its own.
@@ -63,7 +65,7 @@ impl Plan<'_> {
     }
 }
 
-/// Why a call gives no result: a number from 1 to 29 (README.md, "Refusals") and its values.
+/// Why a call gives no result: a number from 1 to 31 (README.md, "Refusals") and its values.
 #[derive(Clone, Debug, PartialEq, Eq)]
 pub struct Refusal {
     pub number: u64,
@@ -378,6 +380,46 @@ pub fn join(first: &Plan, second: &Plan, joined: &mut [i16]) -> Result<usize, Re
         |out, len| unsafe { raw::qcldpc_join(p, n, rows, cols, lift, p2, n2, rows2, cols2, lift2, j, jn, out, len) },
         |out| out[0] as usize,
     )
+}
+
+/// Encodes data bits by a bi-diagonal plan: fills the word with the only codeword that has those data bits. What stood there is
+/// not read. [`OwnedPlan::encode`] makes the word itself.
+///
+/// A bi-diagonal plan has `m` rows, `m` at least 3, and at least `m + 1` columns. Column `k`, for `k` from 0 to `m − 2`, has
+/// the remainder 0 by the lift in rows `k` and `k + 1` and no other filled block; column `m − 1` has exactly three filled
+/// blocks, of which at least two have the same remainder. The other columns may have any blocks. They carry the data:
+/// `(cols − m) × lift` bytes, each 0 or 1, which become the bits from number `m × lift` on, in the same order.
+///
+/// Refusals 1 to 6; 16 where the word is not `cols × lift` bytes long; 30 where the plan has not this shape; 31 where the data
+/// have another length or a byte above 1.
+///
+/// The plan here has 3 rows and one column of data, at lift 3. In column 2 the remainder 1 stands twice:
+///
+/// ```text
+///  0 −1  1  0
+///  0  0  0 −1
+/// −1  0  1  2
+/// ```
+///
+/// ```
+/// use qcldpc::{encode, syndrome, Plan, Refusal, Syndrome};
+///
+/// let plan = Plan { entries: &[0, -1, 1, 0, 0, 0, 0, -1, -1, 0, 1, 2], rows: 3, cols: 4, lift: 3 };
+/// let mut word = [255; 12];
+/// encode(&plan, &[1, 0, 0], &mut word)?;
+/// assert_eq!(word, [0, 0, 1, 1, 1, 1, 1, 1, 0, 1, 0, 0]);
+/// assert_eq!(syndrome(&plan, &word), Ok(Syndrome::Even));
+///
+/// let refused = |number| Err(Refusal { number, values: vec![] });
+/// assert_eq!(encode(&plan, &[1, 0, 0], &mut word[1..]), refused(16));
+/// assert_eq!(encode(&Plan { entries: &[0; 12], ..plan }, &[1, 0, 0], &mut word), refused(30));
+/// assert_eq!(encode(&plan, &[1, 0, 2], &mut word), refused(31));
+/// # Ok::<(), Refusal>(())
+/// ```
+pub fn encode(plan: &Plan, data: &[u8], word: &mut [u8]) -> Result<(), Refusal> {
+    let (p, n, rows, cols, lift) = plan.lent();
+    let ((d, dn), (w, wn)) = (lent(data), place(word));
+    call(|out, len| unsafe { raw::qcldpc_encode(p, n, rows, cols, lift, d, dn, w, wn, out, len) }, |_| ())
 }
 
 /// Writes the alist text of a plan, in its padded form, and gives its length; bytes past it stay. [`OwnedPlan::alist`] makes the

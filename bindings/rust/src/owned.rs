@@ -1,5 +1,5 @@
 //! A plan that owns its entries and its weights.
-use crate::{alist_compare, alist_write, build, change, check, join, steiner, Built, Plan, Refusal};
+use crate::{alist_compare, alist_write, build, change, check, encode, join, steiner, Built, Plan, Refusal};
 
 /// A good plan that owns its entries and, beside them, the weights of its rows and columns, which it keeps true: no call on it
 /// is refused for the plan or for its weights.
@@ -153,6 +153,25 @@ impl OwnedPlan {
     pub fn change(&mut self, row: usize, col: usize, entry: i16) -> Result<(), Refusal> {
         let OwnedPlan { rows, cols, lift, .. } = *self;
         change(&mut self.entries, rows, cols, lift, row, col, entry, &mut self.row_weights, &mut self.col_weights)
+    }
+
+    /// The only codeword with these data bits, as [`encode`] encodes them, in a word of its own. Refusals 30 where the plan has
+    /// not the bi-diagonal shape, 31 where the data have another length than `(cols − rows) × lift` or a byte above 1.
+    ///
+    /// ```
+    /// use qcldpc::{syndrome, OwnedPlan, Refusal, Syndrome};
+    ///
+    /// let plan = OwnedPlan::new(vec![0, -1, 1, 0, 0, 0, 0, -1, -1, 0, 1, 2], 3, 4, 3)?;
+    /// let word = plan.encode(&[1, 0, 0])?;
+    /// assert_eq!(word, [0, 0, 1, 1, 1, 1, 1, 1, 0, 1, 0, 0]);
+    /// assert_eq!(syndrome(&plan.lent(), &word), Ok(Syndrome::Even));
+    /// assert_eq!(plan.encode(&[1, 0]), Err(Refusal { number: 31, values: vec![] }));
+    /// # Ok::<(), Refusal>(())
+    /// ```
+    pub fn encode(&self, data: &[u8]) -> Result<Vec<u8>, Refusal> {
+        let mut word = vec![0; self.bits()];
+        encode(&self.lent(), data, &mut word)?;
+        Ok(word)
     }
 
     /// The alist text of the plan, in its padded form, as [`alist_write`] writes it.

@@ -1,4 +1,4 @@
-//! The fifteen functions as `include/qcldpc.h` declares them: a slice passes as a pointer, then its length.
+//! The sixteen functions as `include/qcldpc.h` declares them: a slice passes as a pointer, then its length.
 //! Nothing is asked of numbers and bytes; each pointer goes with the length of its memory, and memory that is written
 //! overlaps no other. A call returns within 1 MiB of stack.
 
@@ -147,6 +147,20 @@ extern "C" {
         lift2: u64,
         joined: *mut i16,
         joined_len: usize,
+        out: *mut u64,
+        out_len: usize,
+    ) -> u64;
+
+    pub fn qcldpc_encode(
+        plan: *const i16,
+        plan_len: usize,
+        rows: u64,
+        cols: u64,
+        lift: u64,
+        data: *const u8,
+        data_len: usize,
+        word: *mut u8,
+        word_len: usize,
         out: *mut u64,
         out_len: usize,
     ) -> u64;

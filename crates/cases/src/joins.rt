@@ -35,7 +35,8 @@ fn entries(plan: &[i16], cols: usize) {
     }
 }
 
-fn show(plan: &[i16], cols: usize, lift: usize) {
+// The entries and P.
+pub fn show(plan: &[i16], cols: usize, lift: usize) {
     entries(plan, cols);
     number(b", P = ", lift);
 }

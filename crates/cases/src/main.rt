@@ -1,6 +1,7 @@
 // The test program: runs the bench cases of document 01 that are not proved as a table, and the sources' parameters,
 // and writes a line for each answer, to be compared with the stored output.
 mod changes; // changes.rt: one block changed
+mod frames; // frames.rt: frames of data bits
 mod joins; // joins.rt: two plans made one
 mod lowered; // lowered.rt: a matrix with P lowered, so that voltages stand at or above it
 mod pairs; // pairs.rt: the girth test by sorted pairs
@@ -9,6 +10,7 @@ mod source000; // source000.rt: the degree matrices of source 000
 mod source000_sts; // source000_sts.rt: the degree matrices of source 000 from Steiner triple systems
 mod source001; // source001.rt: the labelings of source 001
 mod source002; // source002.rt: the example of source 002
+mod source003; // source003.rt: plans of the shape of source 003
 mod steiner_plans; // steiner_plans.rt: Steiner triple plans
 mod tables; // tables.rt: table plans, and source 004's examples
 mod text; // text.rt: alist text
@@ -48,4 +50,10 @@ fn main() {
     joins::sizes();
     joins::turned_away();
     joins::no_block();
+    frames::small_plans();
+    source003::eight_columns();
+    source003::twelve_rows();
+    source003::six_rows();
+    source003::most_bits();
+    frames::turned_away();
 }

@@ -14,3 +14,4 @@ pub mod Filling
 pub mod Images
 pub mod Recovery
 pub mod Ends
+pub mod Sums

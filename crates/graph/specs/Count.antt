@@ -30,6 +30,11 @@ unfoldable pub count : (ℕ → Bool) → List ℕ → ℕ
 count test [] = 0
 count test (x ∷ l) = one (test x) + count test l
 
+-- the sum of a number for each member of a list
+unfoldable pub sum : (ℕ → ℕ) → List ℕ → ℕ
+sum f [] = 0
+sum f (x ∷ l) = f x + sum f l
+
 -- x is a member of a list
 unfoldable pub member : ℕ → List ℕ → Bool
 member x [] = false

@@ -8,6 +8,7 @@ pub mod TableRows
 pub mod WordRows
 pub mod Tokens
 pub mod JoinRows
+pub mod EncodeRows
 pub mod TextRows
 pub mod Texts
 pub mod SteinerRows
@@ -19,8 +20,10 @@ pub mod Steiner
 pub mod Cases
 pub mod Counts
 pub mod SameJoins
+pub mod SameEncodes
 pub mod Remainders
 pub mod Preview
 pub mod Changes
 pub mod Pairs
 pub mod Joins
+pub mod Encodes

@@ -40,10 +40,12 @@ use Rattle.steiner.specs.System.{cols}
 use Rattle.steiner.specs.Build as steiner-build
 use Rattle.steiner.proofs.Plans as steiner-rules
 use Rattle.crt.specs.Join.{joinedPlan, joinRefusal, joining}
+use Rattle.encoding.specs.Encode.{frameOf, encodeRefusal, encoding}
+use Rattle.encoding.proofs.Rules.{encode-rise}
 use Rattle.alist.specs.Calls.{alistText, writeRules, written, laid, comparison}
 use Rattle.alist.proofs.Answers as text-rules
 use Rattle.promises.specs.TurnedAway.{LowestOf}
-use Rattle.promises.specs.One.{ofValidity, ofOutcome, ofVerdict, ofSyndrome, ofFilling, ofSupplied, ofBuilt, ofWritten, ofComparison, ofChanged, ofJoining, Unchanged, Promise-1}
+use Rattle.promises.specs.One.{ofValidity, ofOutcome, ofVerdict, ofSyndrome, ofFilling, ofSupplied, ofBuilt, ofWritten, ofComparison, ofChanged, ofJoining, ofEncoding, Unchanged, Promise-1}
 use Rattle.promises.proofs.Matching.{Matches, lowest-of}
 use Rattle.promises.proofs.PlanRows.{plan-matches, test-matches}
 use Rattle.promises.proofs.PairRows.{pairs-matches}
@@ -52,6 +54,7 @@ use Rattle.promises.proofs.TableRows.{supply-matches, build-matches}
 use Rattle.promises.proofs.SteinerRows.{steiner-matches}
 use Rattle.promises.proofs.ChangeRows.{change-matches}
 use Rattle.promises.proofs.JoinRows.{join-lowest}
+use Rattle.promises.proofs.EncodeRows.{encode-matches}
 use Rattle.promises.proofs.TextRows.{write-matches, compare-matches}
 
 -- an answer carries the refusal that it was made from
@@ -98,6 +101,10 @@ in-changed (some r) = refl
 in-joining : (o : Option Refusal) (lift : ℕ) → ofJoining (joining o lift) ≡ o
 in-joining none lift = refl
 in-joining (some r) lift = refl
+
+in-encoding : (o : Option Refusal) → ofEncoding (encoding o) ≡ o
+in-encoding none = refl
+in-encoding (some r) = refl
 
 -- a refusal leaves what was lent
 kept : {A : Type 0} (leaves : Option Refusal → A) (before : A) → ((r : Refusal) → leaves (some r) ≡ before)
@@ -178,6 +185,11 @@ promise-1 =
           let e = in-joining (joinRefusal a b (length place)) (a .lift * b .lift) in (
             subst (LowestOf _) (sym e) (join-lowest a b (length place)),
             kept (λ o. lent o (joinedPlan (a .plan) (a .lift) (b .plan) (b .lift)) place) place (λ r. refl) _ _ e,
+          );
+      encode = λ plan rows cols lift info word.
+          let e = in-encoding (encodeRefusal plan rows cols lift info word) in (
+            answered _ _ _ (encode-rise plan rows cols lift info (length word)) (encode-matches plan rows cols lift info (length word)) e,
+            kept (λ o. lent o (frameOf plan rows cols lift info) word) word (λ r. refl) _ _ e,
           );
       write = λ plan rows cols lift byrow bycol place. (
         answered _ _ _ (text-rules.write-rise plan rows cols lift byrow bycol place) (write-matches plan rows cols lift byrow bycol place) (in-written _ _),

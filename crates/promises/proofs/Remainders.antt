@@ -33,6 +33,7 @@ use Rattle.peeling.specs.Fill.{fillRules, fillAnswer, fillWord}
 use Rattle.alist.specs.Calls.{writeRules, compareRules}
 use Rattle.promises.specs.Remainders.{SameChange, SameAnswers}
 use Rattle.promises.proofs.SameJoins.{first-alike, second-alike}
+use Rattle.promises.proofs.SameEncodes.{same-encoding, same-encoded}
 
 -- an answer of the girth test that one plan allows, the other does
 module _ (p q : List ℤ) (rows cols lift : ℕ) (rules : planRules p rows cols lift ≡ planRules q rows cols lift) (graph : tanner p rows cols lift ≡ tanner q rows cols lift) where
@@ -131,4 +132,6 @@ same-remainders p q rows cols lift same =
       changing = changed-alike lift same rows cols;
       joining-first = λ b place. first-alike lift same rows cols b place;
       joining-second = λ a place. second-alike lift same rows cols a place;
+      encoding-answer = same-encoding lift same rows cols;
+      encoded-word = same-encoded lift same rows cols;
     }

@@ -30,7 +30,7 @@ use Rattle.table.specs.Build.{supplyRules, unsoundAt, tableRules, maskRules, bu
 use Rattle.promises.specs.TurnedAway.{LiftRow, row-3, SquareRow, row-7, row-8, IsNegative, TableRow, row-9, row-10, MaskRow, row-11, row-12, row-13, PlaceRow, row-15, table-lists, _or_}
 use Rattle.promises.specs.TurnedAway as away
 use Rattle.promises.proofs.Matching.{Listed, RowOf, RowOrLower, Matches, join, by-rule, no-rule, at-rule, further}
-use Rattle.promises.proofs.PlanRows.{differs, unless-both}
+use Rattle.promises.proofs.PlanRows.{differs, either-exactly, unless-both}
 
 -- 7 AND 8
 module _ (order numbers : ℕ) where
@@ -108,34 +108,25 @@ module _ (order lift : ℕ) (table : List ℤ) where
 pub lists-exactly : (room : Room) (rows cols : ℕ) → (not (eqb (room .rows) rows && eqb (room .cols) cols) ≡ true) ↔ ((room .rows ≢ rows) ⊎ (room .cols ≢ cols))
 lists-exactly room rows cols = unless-both (eqb (room .rows) rows) (eqb (room .cols) cols) (differs (room .rows) rows) (differs (room .cols) cols)
 
+-- a list has other than n bytes, or a byte above 1
+pub bytes-exactly : (n : ℕ) (list : List ℕ) → ((not (eqb (length list) n) || somewhere (ltb 1) list) ≡ true) ↔ ((length list ≢ n) ⊎ ((place : ℕ) × (1 < getD list place 0)))
+bytes-exactly n list =
+    either-exactly _ _ (differs (length list) n) (
+      λ e. (firstPlace (ltb 1) list, ltb-true 1 _ (at-first (ltb 1) 0 list (ltb-true _ _ e))),
+      λ (place, h). byte place h,
+    )
+  where
+    byte : (place : ℕ) → 1 < getD list place 0 → somewhere (ltb 1) list ≡ true
+    byte place h =
+        by-bool (somewhere (ltb 1) list) (λ e. e) λ e.
+        by-le (length list) place
+        (λ k. absurd (omega (arith, List·getD-eq-default list 0 k)))
+        (λ k. both-ways (lt-ltb 1 (getD list place 0) h) (somewhere-no (ltb 1) 0 list e place k))
+
 -- 11 TO 13, 15 AND 25
 module _ (order lift : ℕ) (mask : List ℕ) (room : Room) where
   abbrev Masked : ℕ → List ℕ → Type 0
   Masked = MaskRow order lift mask or PlaceRow order mask room
-
-  abbrev bad-mask : Type 0
-  bad-mask = (length mask ≢ order * order) ⊎ ((place : ℕ) × (1 < getD mask place 0))
-
-  mask-exactly : ((not (eqb (length mask) (order * order)) || somewhere (ltb 1) mask) ≡ true) ↔ bad-mask
-  mask-exactly = (
-    λ e. by-bool (not (eqb (length mask) (order * order)))
-        (λ p. inl (differs (length mask) (order * order) .0 p))
-        (λ p.
-        let h : firstPlace (ltb 1) mask < length mask = ltb-true _ _ (rw p at e) in
-        inr (firstPlace (ltb 1) mask, ltb-true 1 _ (at-first (ltb 1) 0 mask h))),
-    found,
-  )
-    where
-      byte : (place : ℕ) → 1 < getD mask place 0 → somewhere (ltb 1) mask ≡ true
-      byte place h =
-          by-bool (somewhere (ltb 1) mask) (λ e. e) λ e.
-          by-le (length mask) place
-          (λ k. absurd (omega (arith, List·getD-eq-default mask 0 k)))
-          (λ k. both-ways (lt-ltb 1 (getD mask place 0) h) (somewhere-no (ltb 1) 0 mask e place k))
-
-      found : bad-mask → (not (eqb (length mask) (order * order)) || somewhere (ltb 1) mask) ≡ true
-      found (inl h) = rw (differs (length mask) (order * order) .1 h)
-      found (inr (place, h)) = by-bool (not (eqb (length mask) (order * order))) (λ p. rw p) (λ p. rw (p, byte place h))
 
   -- the weight is the common one; where there is none, 12 applies, whose number is lower than n
   weight-of : (L : ℕ) → Common order mask L → L ≡ weight order mask
@@ -154,7 +145,7 @@ module _ (order lift : ℕ) (mask : List ℕ) (room : Room) where
   mask-listed s i =
       let C = RowOrLower Masked in
       let L = weight order mask in
-      by-rule C MaskByte (not (eqb (length mask) (order * order)) || somewhere (ltb 1) mask) _ s i (λ e. inl (inl (row-11 (mask-exactly .0 e)))) λ i.
+      by-rule C MaskByte (not (eqb (length mask) (order * order)) || somewhere (ltb 1) mask) _ s i (λ e. inl (inl (row-11 (bytes-exactly (order * order) mask .0 e)))) λ i.
       by-rule C MaskWeight (not (common order mask)) _ s i (λ e. inl (inl (row-12 (no-weight-exactly order mask .0 e)))) λ i.
       by-rule C TableBits (ltb 65536 (planCols order L * lift)) _ s i (λ e. by-weight TableBits (omega arith) (λ w. inl (row-13 L w (ltb-true _ _ e)))) λ i.
       by-rule C PlanPlace (not (eqb (room .plan) (planRows order L * planCols order L))) _ s i (λ e. by-weight PlanPlace (omega arith) (λ w. inr (row-15 L w (differs _ _ .0 e)))) λ i.
@@ -164,7 +155,7 @@ module _ (order lift : ℕ) (mask : List ℕ) (room : Room) where
 
   mask-applies : (n : ℕ) (l : List ℕ) → Masked n l → Listed (maskRules order lift mask room) n l
   unfolding maskRules
-  mask-applies n l (inl (row-11 h)) = at-rule _ _ refl refl (mask-exactly .1 h)
+  mask-applies n l (inl (row-11 h)) = at-rule _ _ refl refl (bytes-exactly (order * order) mask .1 h)
   mask-applies n l (inl (row-12 h)) = further (at-rule _ _ refl refl (no-weight-exactly order mask .1 h))
   mask-applies n l (inl (row-13 L w h)) =
       further (further (at-rule _ _ refl refl (lt-ltb _ _ (subst (λ (L : ℕ). 65536 < planCols order L * lift) (weight-of L w) h))))

@@ -12,3 +12,4 @@ pub mod Preview
 pub mod Changes
 pub mod Pairs
 pub mod Joins
+pub mod Encodes

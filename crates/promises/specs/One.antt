@@ -42,12 +42,15 @@ use Rattle.steiner.specs.Build as steiner-build
 use Rattle.crt.specs.declared.Joining.{Joining}
 use Rattle.crt.specs.declared.Joining.the-variants as joining-answer
 use Rattle.crt.specs.Join.{Sized, atProduct, joinRefusal, afterJoin, joining}
+use Rattle.encoding.specs.declared.Encoding.{Encoding}
+use Rattle.encoding.specs.declared.Encoding.the-variants as encoding-answer
+use Rattle.encoding.specs.Encode.{encodeRefusal, encoding, afterEncode}
 use Rattle.alist.specs.declared.Written.{Written}
 use Rattle.alist.specs.declared.Written.the-variants as written-answer
 use Rattle.alist.specs.declared.Comparison.{Comparison}
 use Rattle.alist.specs.declared.Comparison.the-variants as comparison-answer
 use Rattle.alist.specs.Calls.{alistText, writeRules, written, laid, compareRules, comparison}
-use Rattle.promises.specs.TurnedAway.{LiftRow, PlanRow, TargetRow, SquareRow, TableRow, MaskRow, PlaceRow, WordRow, RoomRow, ErasureRow, SolutionRow, TokenRow, SteinerRow, NewEntryRow, BlockRow, WeightRow, WorkRow, SizedRow, JoinRow, _or_, _over_, LowestOf}
+use Rattle.promises.specs.TurnedAway.{LiftRow, PlanRow, TargetRow, SquareRow, TableRow, MaskRow, PlaceRow, WordRow, RoomRow, ErasureRow, SolutionRow, TokenRow, SteinerRow, NewEntryRow, BlockRow, WeightRow, WorkRow, SizedRow, JoinRow, EncodeRow, _or_, _over_, LowestOf}
 
 -- the refusal in each kind of answer
 abbrev pub ofValidity : Validity → Option Refusal
@@ -96,6 +99,10 @@ ofChanged (change-answer.Refused r) = some r
 abbrev pub ofJoining : Joining → Option Refusal
 ofJoining (joining-answer.Joined lift) = none
 ofJoining (joining-answer.Refused r) = some r
+
+abbrev pub ofEncoding : Encoding → Option Refusal
+ofEncoding encoding-answer.Encoded = none
+ofEncoding (encoding-answer.Refused r) = some r
 
 -- lent memory, a list or several together, before the call and after it: on a refusal it is as it was
 abbrev pub Unchanged : {A : Type 0} → Option Refusal → A → A → Type 0
@@ -149,6 +156,10 @@ pub record Promise-1 : Type 0 where
   pub join : (a b : Sized) (place : List ℤ)
       → let answer = ofJoining (joining (joinRefusal a b (length place)) (a .lift * b .lift)) in
       LowestOf (SizedRow a over SizedRow b over SizedRow (atProduct a b) or JoinRow a b (length place)) answer × Unchanged answer place (afterJoin a b place)
+  -- 1 to 6, 16, 30, 31 (document 02, slip 10)
+  pub encode : (plan : List ℤ) (rows cols lift : ℕ) (info word : List ℕ)
+      → let answer = ofEncoding (encoding (encodeRefusal plan rows cols lift info word)) in
+      LowestOf (PlanRow plan rows cols lift or EncodeRow plan rows cols lift info (length word)) answer × Unchanged answer word (afterEncode plan rows cols lift info word)
   -- 1 to 6, 17, 25
   pub write : (plan : List ℤ) (rows cols lift : ℕ) (byrow bycol place : List ℕ)
       → let refusal = lowest (writeRules plan rows cols lift byrow bycol place) in

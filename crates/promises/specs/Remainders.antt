@@ -20,6 +20,7 @@ use Rattle.treetest.specs.Answer as pairs
 use Rattle.syndrome.specs.Check.{syndromeOf}
 use Rattle.peeling.specs.Fill.{fillAnswer, fillWord}
 use Rattle.crt.specs.Join.{Sized, sized, joinRefusal, afterJoin, joining}
+use Rattle.encoding.specs.Encode.{encodeRefusal, encoding, afterEncode}
 use Rattle.alist.specs.Calls.{alistText, writeRules, written, laid, compareRules, comparison}
 
 -- what one change does alike to two plans with their lists
@@ -59,6 +60,9 @@ pub record SameAnswers (p q : List ℤ) (rows cols lift : ℕ) : Type 0 where
       → comparison (lowest (compareRules p rows cols lift byrow bycol text)) ≡ comparison (lowest (compareRules q rows cols lift byrow bycol text))
   -- the answer of a change (slip 7) and the lists of weights after it; and the plans after it have the same remainders again;
   pub changing : (row col : ℕ) (entry : ℤ) (byrow bycol : List ℕ) → SameChange lift (call rows cols lift row col entry) (held p byrow bycol) (held q byrow bycol)
-  -- the answer of joining them with another plan (slip 9), as the first or as the second, and the joined plan
+  -- the answer of joining them with another plan (slip 9), as the first or as the second, and the joined plan;
   pub joining-first : (b : Sized) (place : List ℤ) → SameJoin (sized p rows cols lift) b (sized q rows cols lift) b place
   pub joining-second : (a : Sized) (place : List ℤ) → SameJoin a (sized p rows cols lift) a (sized q rows cols lift) place
+  -- of all data bits the answer of encoding them (slip 10), and what the lent word then holds
+  pub encoding-answer : (info word : List ℕ) → encoding (encodeRefusal p rows cols lift info word) ≡ encoding (encodeRefusal q rows cols lift info word)
+  pub encoded-word : (info word : List ℕ) → afterEncode p rows cols lift info word ≡ afterEncode q rows cols lift info word

@@ -1,6 +1,6 @@
 -- The rows of "Turned away" (document 01) and of document 02's slips, by who can cause them: when each number applies, and with which
 -- values. Each row stands here once; the refusals of a call are its rows together (One.antt). Places count from 0.
-use Prim.Native.Nat.{ℕ, suc, _+_, _-_, _*_, _/_, _≤_, _<_, _∣_, max}
+use Prim.Native.Nat.{ℕ, suc, _+_, _-_, _*_, _/_, _%_, _≤_, _<_, _∣_, max}
 use mathlib.Core.Path.{_≡_}
 use mathlib.Core.Logic.{_↔_, _⊎_, _≢_}
 use mathlib.Core.List.{List, [], _∷_}
@@ -208,6 +208,29 @@ pub data JoinRow (a b : Sized) (room : ℕ) : ℕ → List ℕ → Type 0 where
   other-cols : a .cols ≢ b .cols → JoinRow a b room 28 []
   other-block : (p : ℕ) → p < length (a .plan) → ((getD (a .plan) p (pos 0) ≡ negsuc 0) ↔ (getD (b .plan) p (pos 0) ≡ negsuc 0) → ⊥) → JoinRow a b room 28 []
   row-29 : (room ≢ length (a .plan)) ⊎ (room ≢ length (b .plan)) → JoinRow a b room 29 []
+
+-- WHO HAS DATA ENCODED (document 02, slip 10). In row i and column j stands a voltage that leaves r by the lift
+pub data Voltage (plan : List ℤ) (cols lift i j r : ℕ) : Type 0 where
+  leaves : (e : ℕ) → getD plan (i * cols + j) (pos 0) ≡ pos e → e % lift ≡ r → Voltage plan cols lift i j r
+
+-- the shape of formula (5) in source 003, with m rows, m at least 3, and at least one column for data:
+pub record Bidiagonal (plan : List ℤ) (rows cols lift : ℕ) : Type 0 where
+  pub three-rows : 3 ≤ rows
+  pub data-column : rows < cols
+  -- column k, for k from 0 to m − 2, has remainder 0 in rows k and k + 1 and nothing else;
+  pub upper : (k : ℕ) → k < rows - 1 → Voltage plan cols lift k k 0
+  pub lower : (k : ℕ) → k < rows - 1 → Voltage plan cols lift (k + 1) k 0
+  pub empty : (i k : ℕ) → i < rows → k < rows - 1 → i ≢ k → i ≢ k + 1 → getD plan (i * cols + k) (pos 0) ≡ negsuc 0
+  -- column m − 1 has exactly three filled blocks, of which at least two carry the same remainder
+  pub three-filled : columnWeight plan rows cols lift (rows - 1) ≡ 3
+  pub two-equal : (i : ℕ) × (k : ℕ) × (r : ℕ) × (i < k) × (k < rows) × Voltage plan cols lift i (rows - 1) r × Voltage plan cols lift k (rows - 1) r
+
+-- 16: the length of the lent word, of which nothing else is looked at; 30: the plan has not this shape; 31: the data are not (C − m) × P
+-- bytes, or a byte is above 1
+pub data EncodeRow (plan : List ℤ) (rows cols lift : ℕ) (info : List ℕ) (room : ℕ) : ℕ → List ℕ → Type 0 where
+  lent-word : room ≢ cols * lift → EncodeRow plan rows cols lift info room 16 []
+  row-30 : (Bidiagonal plan rows cols lift → ⊥) → EncodeRow plan rows cols lift info room 30 []
+  row-31 : (length info ≢ (cols - rows) * lift) ⊎ ((place : ℕ) × (1 < getD info place 0)) → EncodeRow plan rows cols lift info room 31 []
 
 -- ROWS TOGETHER, and the lowest number that applies.
 infixl 1 _or_

@@ -31,6 +31,8 @@ use Rattle.weights.specs.declared.change.Changed.{Changed as ChangedAnswer}
 use Rattle.weights.specs.declared.change.Changed.the-variants.{Changed, Refused as NotChanged}
 use Rattle.crt.specs.declared.Joining.{Joining}
 use Rattle.crt.specs.declared.Joining.the-variants.{Joined, Refused as NotJoined}
+use Rattle.encoding.specs.declared.Encoding.{Encoding}
+use Rattle.encoding.specs.declared.Encoding.the-variants.{Encoded, Refused as NotEncoded}
 use Rattle.qcldpc.specs.declared.reply.Reply.{Reply}
 use Rattle.qcldpc.specs.declared.reply.Reply.the-variants.{Refused as Refuses, Nothing, One, Two}
 
@@ -113,6 +115,11 @@ changedReply (NotChanged r) = Refuses r
 abbrev pub joinedReply : Joining → Reply
 joinedReply (Joined lift) = One lift
 joinedReply (NotJoined r) = Refuses r
+
+-- the frame is in the word
+abbrev pub encodedReply : Encoding → Reply
+encodedReply Encoded = Nothing
+encodedReply (NotEncoded r) = Refuses r
 
 -- an answer's reply, put into `out`
 abbrev pub gives : {A : Type 0} → (A → Reply) → A → List ℕ → Given

@@ -28,11 +28,13 @@ ghost use Rattle.table.specs.Build.{supplyRules, supplied, buildRefusal, afterB
 ghost use Rattle.steiner.specs.Build as steiner;
 ghost use Rattle.crt.specs.declared.Joining.{Joining};
 ghost use Rattle.crt.specs.Join.{sized, joinRefusal, joining, afterJoin};
+ghost use Rattle.encoding.specs.declared.Encoding.{Encoding};
+ghost use Rattle.encoding.specs.Encode.{encodeRefusal, encoding, afterEncode};
 ghost use Rattle.alist.specs.declared.Written.{Written};
 ghost use Rattle.alist.specs.declared.Comparison.{Comparison};
 ghost use Rattle.alist.specs.Calls.{alistText, writeRules, written, laid, compareRules, comparison};
 ghost use Rattle.qcldpc.specs.declared.reply.Reply.the-variants.{One};
-ghost use Rattle.qcldpc.specs.Door.{Replies, Leaves, KeptUnless0, gives, checkReply, girthReply, verdictReply, fillReply, syndromeReply, builtReply, suppliedReply, writtenReply, comparedReply, changedReply, joinedReply};
+ghost use Rattle.qcldpc.specs.Door.{Replies, Leaves, KeptUnless0, gives, checkReply, girthReply, verdictReply, fillReply, syndromeReply, builtReply, suppliedReply, writtenReply, comparedReply, changedReply, joinedReply, encodedReply};
 use square::supply::Family;
 use weights::change;
 
@@ -136,6 +138,35 @@ pub extern "C" fn qcldpc_fill(
     }
     let a = peeling::fill(plan, rows as usize, cols as usize, lift as usize, word);
     let r = reply::filled(a);
+    reply::give(r, out)
+}
+
+// The encoder: the word then holds the frame of the data bits. Nothing is put into `out` but a refusal's values.
+#[no_mangle]
+pub extern "C" fn qcldpc_encode(
+    plan: &[i16],
+    rows: u64,
+    cols: u64,
+    lift: u64,
+    data: &[u8],
+    word: &mut [u8],
+    out: &mut [u64],
+) -> u64
+    ensures answers { λ r. ⌜ Replies Encoding (λ a. a ≡ encoding (encodeRefusal (now (plan .entry)) rows cols lift (now («data» .entry)) (now (word .entry)))) (gives encodedReply) (now (out .entry)) r (now (out .exit)) ⌝ }
+    ensures leaves { λ _. ⌜ Leaves (now (out .entry)) (afterEncode (now (plan .entry)) rows cols lift (now («data» .entry)) (now (word .entry))) (now (word .entry)) (now (word .exit)) ⌝ }
+{
+    if out.len() < PLACES {
+        return NO_ROOM;
+    }
+    let a = encoding::encode(
+        plan,
+        rows as usize,
+        cols as usize,
+        lift as usize,
+        data,
+        word,
+    );
+    let r = reply::encoded(a);
     reply::give(r, out)
 }
 

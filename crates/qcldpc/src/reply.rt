@@ -1,6 +1,7 @@
 use alist::Comparison;
 use alist::Written;
 use crt::Joining;
+use encoding::Encoding;
 use exponent::Validity;
 use girth::GirthTest;
 use girth::Outcome;
@@ -16,7 +17,7 @@ ghost use mathlib.Core.Path.{_≡_};
 ghost use Prim.Native.Nat.{_+_, _≤_};
 ghost use lib.ListN.{length};
 ghost use lib.Seq.{sets};
-ghost use Rattle.qcldpc.specs.Door.{refusal, given, checkReply, witnessReply, girthReply, verdictReply, fillReply, syndromeReply, builtReply, suppliedReply, writtenReply, comparedReply, changedReply, joinedReply};
+ghost use Rattle.qcldpc.specs.Door.{refusal, given, checkReply, witnessReply, girthReply, verdictReply, fillReply, syndromeReply, builtReply, suppliedReply, writtenReply, comparedReply, changedReply, joinedReply, encodedReply};
 
 // What an answer comes to: a refusal; or no number, one or two for the first places of `out`.
 pub enum Reply {
@@ -199,5 +200,15 @@ pub fn joined(j: Joining) -> Reply
     match j {
         Joining::Joined(lift) => Reply::One(lift),
         Joining::Refused(r) => Reply::Refused(r),
+    }
+}
+
+// The frame is in the word.
+pub fn encoded(e: Encoding) -> Reply
+    ensures { λ r. ⌜ r ≡ encodedReply e ⌝ }
+{
+    match e {
+        Encoding::Encoded => Reply::Nothing,
+        Encoding::Refused(r) => Reply::Refused(r),
     }
 }

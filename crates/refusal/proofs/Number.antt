@@ -4,7 +4,7 @@ use mathlib.Core.Path.{_≡_, refl}
 use mathlib.Core.List.{List, [], _∷_, map}
 use native.Mathlib.Omega.{arith}
 use Rattle.refusal.specs.declared.Refusal.{Refusal}
-use Rattle.refusal.specs.declared.Refusal.the-variants.{Rows, Cols, Lift, Bits, PlanLength, Entry, Order, TableLength, NegativeEntry, Unsound, MaskByte, MaskWeight, TableBits, Target, PlanPlace, WordLength, TextPlace, Byte, Erasure, NoSolution, Token, SteinerOrder, SteinerLength, BlockPlace, Weights, WorkPlace, SharedDivisor, PlansDiffer, JoinedPlace}
+use Rattle.refusal.specs.declared.Refusal.the-variants.{Rows, Cols, Lift, Bits, PlanLength, Entry, Order, TableLength, NegativeEntry, Unsound, MaskByte, MaskWeight, TableBits, Target, PlanPlace, WordLength, TextPlace, Byte, Erasure, NoSolution, Token, SteinerOrder, SteinerLength, BlockPlace, Weights, WorkPlace, SharedDivisor, PlansDiffer, JoinedPlace, NotBidiagonal, DataBits}
 use Rattle.refusal.specs.Number.{number}
 
 -- the cases in order, whatever the values are
@@ -39,13 +39,15 @@ cases v =
     ∷ SharedDivisor
     ∷ PlansDiffer
     ∷ JoinedPlace
+    ∷ NotBidiagonal
+    ∷ DataBits
     ∷ []
 
-pub numbered : (v : ℕ) → map number (cases v) ≡ 1 ∷ 2 ∷ 3 ∷ 4 ∷ 5 ∷ 6 ∷ 7 ∷ 8 ∷ 9 ∷ 10 ∷ 11 ∷ 12 ∷ 13 ∷ 14 ∷ 15 ∷ 16 ∷ 17 ∷ 18 ∷ 19 ∷ 20 ∷ 21 ∷ 22 ∷ 23 ∷ 24 ∷ 25 ∷ 26 ∷ 27 ∷ 28 ∷ 29 ∷ []
+pub numbered : (v : ℕ) → map number (cases v) ≡ 1 ∷ 2 ∷ 3 ∷ 4 ∷ 5 ∷ 6 ∷ 7 ∷ 8 ∷ 9 ∷ 10 ∷ 11 ∷ 12 ∷ 13 ∷ 14 ∷ 15 ∷ 16 ∷ 17 ∷ 18 ∷ 19 ∷ 20 ∷ 21 ∷ 22 ∷ 23 ∷ 24 ∷ 25 ∷ 26 ∷ 27 ∷ 28 ∷ 29 ∷ 30 ∷ 31 ∷ []
 numbered v = refl
 
--- so every number is one of 1 to 29
-pub number-range : (r : Refusal) → (1 ≤ number r) × (number r ≤ 29)
+-- so every number is one of 1 to 31
+pub number-range : (r : Refusal) → (1 ≤ number r) × (number r ≤ 31)
 number-range Rows = omega arith
 number-range Cols = omega arith
 number-range Lift = omega arith
@@ -75,3 +77,5 @@ number-range WorkPlace = omega arith
 number-range SharedDivisor = omega arith
 number-range PlansDiffer = omega arith
 number-range JoinedPlace = omega arith
+number-range NotBidiagonal = omega arith
+number-range DataBits = omega arith

@@ -2,7 +2,7 @@
 use Prim.Native.Nat.{ℕ}
 use mathlib.Core.List.{List, [], _∷_}
 use Rattle.refusal.specs.declared.Refusal.{Refusal}
-use Rattle.refusal.specs.declared.Refusal.the-variants.{Rows, Cols, Lift, Bits, PlanLength, Entry, Order, TableLength, NegativeEntry, Unsound, MaskByte, MaskWeight, TableBits, Target, PlanPlace, WordLength, TextPlace, Byte, Erasure, NoSolution, Token, SteinerOrder, SteinerLength, BlockPlace, Weights, WorkPlace, SharedDivisor, PlansDiffer, JoinedPlace}
+use Rattle.refusal.specs.declared.Refusal.the-variants.{Rows, Cols, Lift, Bits, PlanLength, Entry, Order, TableLength, NegativeEntry, Unsound, MaskByte, MaskWeight, TableBits, Target, PlanPlace, WordLength, TextPlace, Byte, Erasure, NoSolution, Token, SteinerOrder, SteinerLength, BlockPlace, Weights, WorkPlace, SharedDivisor, PlansDiffer, JoinedPlace, NotBidiagonal, DataBits}
 
 abbrev pub number : Refusal → ℕ
 number Rows = 1
@@ -34,6 +34,8 @@ number WorkPlace = 26
 number SharedDivisor = 27
 number PlansDiffer = 28
 number JoinedPlace = 29
+number NotBidiagonal = 30
+number DataBits = 31
 
 -- a place, the four numbers i, k, r, t of refusal 10, or the length needed
 abbrev pub values : Refusal → List ℕ
@@ -66,3 +68,5 @@ values WorkPlace = []
 values SharedDivisor = []
 values PlansDiffer = []
 values JoinedPlace = []
+values NotBidiagonal = []
+values DataBits = []

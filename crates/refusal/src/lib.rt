@@ -48,4 +48,7 @@ pub enum Refusal {
     SharedDivisor,
     PlansDiffer,
     JoinedPlace,
+    // 30 and 31: who has data encoded.
+    NotBidiagonal,
+    DataBits,
 }

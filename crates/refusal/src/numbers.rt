@@ -44,6 +44,8 @@ pub fn number_of(r: Refusal) -> u64
         Refusal::SharedDivisor => 27,
         Refusal::PlansDiffer => 28,
         Refusal::JoinedPlace => 29,
+        Refusal::NotBidiagonal => 30,
+        Refusal::DataBits => 31,
     }
 }
 

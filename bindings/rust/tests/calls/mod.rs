@@ -2,6 +2,7 @@
 //! stands on the heap, so that the stack is the call's own.
 mod builders;
 mod changes;
+mod encodings;
 mod joins;
 mod pairs;
 mod plans;
@@ -39,6 +40,7 @@ pub const FUNCTIONS: &[Function] = &[
     Function { name: "qcldpc_steiner", largest: steiner::build, refused: steiner::build_refused },
     Function { name: "qcldpc_change", largest: changes::change, refused: changes::change_refused },
     Function { name: "qcldpc_join", largest: joins::join, refused: joins::join_refused },
+    Function { name: "qcldpc_encode", largest: encodings::encode, refused: encodings::encode_refused },
     Function { name: "qcldpc_alist_write", largest: texts::write, refused: texts::write_refused },
     Function { name: "qcldpc_alist_compare", largest: texts::compare, refused: texts::compare_refused },
 ];

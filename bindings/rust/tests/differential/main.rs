@@ -1,9 +1,14 @@
 //! The library beside an independent implementation, on a fixed sequence of many inputs.
 mod alist;
+mod bidiagonal;
 mod cages;
 mod changes;
 mod count;
 mod door;
+mod encode;
+mod encode_faults;
+mod encode_shapes;
+mod encoded;
 mod fill;
 mod girth;
 mod inputs;
@@ -37,6 +42,7 @@ static TABLES: LazyLock<Seen> = LazyLock::new(tables::compare_all);
 static STEINER: LazyLock<Seen> = LazyLock::new(steiner::compare_all);
 static CHANGES: LazyLock<Seen> = LazyLock::new(changes::compare_all);
 static JOIN: LazyLock<Seen> = LazyLock::new(join::compare_all);
+static ENCODE: LazyLock<Seen> = LazyLock::new(encode::compare_all);
 static WORDS: LazyLock<Seen> = LazyLock::new(words::compare_all);
 static FILL: LazyLock<Seen> = LazyLock::new(fill::compare_all);
 static COUNT: LazyLock<Seen> = LazyLock::new(count::compare_all);
@@ -84,6 +90,12 @@ fn joined_plans() {
 }
 
 #[test]
+fn encoded_data() {
+    println!("encoded data: {}", *ENCODE);
+    assert_eq!(ENCODE.met(), [1, 2, 3, 4, 5, 6, 16, 30, 31]);
+}
+
+#[test]
 fn syndrome_check() {
     println!("syndrome check: {}", *WORDS);
 }
@@ -115,7 +127,7 @@ fn promise_3() {
 // The subjects above are run once each, whichever test asks first.
 #[test]
 fn every_refusal_was_met() {
-    let subjects = [&PLANS, &GIRTH, &PAIRS, &TABLES, &STEINER, &CHANGES, &JOIN, &WORDS, &FILL, &ALIST];
+    let subjects = [&PLANS, &GIRTH, &PAIRS, &TABLES, &STEINER, &CHANGES, &JOIN, &ENCODE, &WORDS, &FILL, &ALIST];
     for number in 1..=LAST {
         let times: usize = subjects.iter().map(|seen| seen.refusals(number)).sum();
         assert!(times > 0, "no input met refusal {number}");
@@ -125,7 +137,7 @@ fn every_refusal_was_met() {
 // Every subject that is given voltages meets many at or above the lift.
 #[test]
 fn printed_voltages_were_met() {
-    let plans = [&PLANS, &GIRTH, &PAIRS, &CHANGES, &JOIN, &WORDS, &FILL, &ALIST].map(|seen| (seen, 10000));
+    let plans = [&PLANS, &GIRTH, &PAIRS, &CHANGES, &JOIN, &ENCODE, &WORDS, &FILL, &ALIST].map(|seen| (seen, 10000));
     for (seen, least) in plans.into_iter().chain([(&STEINER, 1000), (&PROMISE, 500)]) {
         assert!(seen.printed > least, "only {} results with a voltage at or above the lift", seen.printed);
     }

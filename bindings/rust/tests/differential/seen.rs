@@ -4,7 +4,7 @@ use qcldpc::Plan;
 use std::fmt;
 
 /// The highest number of a refusal.
-pub const LAST: usize = 29;
+pub const LAST: usize = 31;
 
 /// The number that a call returns: 0 where it is no refusal.
 pub fn number<T>(answer: &Result<T, qcldpc::Refusal>) -> u64 {

@@ -64,6 +64,11 @@ impl Solved {
         self.pivots.len() == self.unknowns
     }
 
+    /// The unknowns that the others determine, rising.
+    pub fn determined(&self) -> &[usize] {
+        &self.pivots
+    }
+
     /// The solution in which each unknown that may be chosen has its value of `choice`.
     pub fn solution(&self, mut choice: impl FnMut() -> bool) -> Vec<u8> {
         let mut values: Vec<u8> = (0..self.unknowns).map(|_| choice() as u8).collect();

@@ -2,6 +2,7 @@
 //! types of the answers.
 pub mod alist;
 pub mod change;
+pub mod encode;
 pub mod fill;
 pub mod gf2;
 pub mod girth;
@@ -9,6 +10,7 @@ pub mod graph;
 pub mod join;
 pub mod pairs;
 pub mod plan;
+pub mod sparse;
 pub mod steiner;
 pub mod table;
 pub mod weights;

@@ -1,0 +1,3 @@
+pub mod Thirds
+pub mod Judging
+pub mod Words

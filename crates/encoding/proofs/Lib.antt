@@ -1,0 +1,11 @@
+pub mod Data
+pub mod Checks
+pub mod Frames
+pub mod Only
+pub mod Runs
+pub mod Laying
+pub mod Adding
+pub mod Steps
+pub mod Written
+pub mod Rules
+pub mod Cases

@@ -1,0 +1,3 @@
+pub mod Frame
+pub mod Encode
+pub mod Work
