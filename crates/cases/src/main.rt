@@ -1,7 +1,7 @@
 // The test program: runs the bench cases of document 01 that are not proved as a table, and the sources' parameters,
 // and writes a line for each answer, to be compared with the stored output.
 mod changes; // changes.rt: one block changed
-mod frames; // frames.rt: frames of data bits
+mod encodings; // encodings.rt: codewords of data bits
 mod joins; // joins.rt: two plans made one
 mod lowered; // lowered.rt: a matrix with P lowered, so that voltages stand at or above it
 mod pairs; // pairs.rt: the girth test by sorted pairs
@@ -50,10 +50,10 @@ fn main() {
     joins::sizes();
     joins::turned_away();
     joins::no_block();
-    frames::small_plans();
+    encodings::small_plans();
     source003::eight_columns();
     source003::twelve_rows();
     source003::six_rows();
     source003::most_bits();
-    frames::turned_away();
+    encodings::turned_away();
 }

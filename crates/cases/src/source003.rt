@@ -2,8 +2,8 @@
 // slip 10) are checked, lose bits and are filled again. The lent word holds 7s before every call.
 ghost use Prim.Native.Nat.{_≤_, _<_};
 ghost use lib.ListN.{length};
-use crate::frames::count;
-use crate::frames::wide;
+use crate::encodings::count;
+use crate::encodings::wide;
 use crate::say::number;
 use crate::say::refused;
 use crate::say::say;

@@ -17,7 +17,7 @@ use Rattle.exponent.specs.declared.block.Block.the-variants.{Zero, Shift, Inval
 use Rattle.exponent.specs.declared.Shape.{Shape}
 use Rattle.exponent.specs.Plan.{filled, blockAt}
 use Rattle.exponent.proofs.Numbers.{number-low}
-use Rattle.encoding.specs.Frame.{bitFor}
+use Rattle.encoding.specs.Encoded.{bitFor}
 use Rattle.encoding.specs.Work.{column, Bits, Columns, Added, Ready}
 use Rattle.encoding.proofs.Data.{bitFor-same}
 

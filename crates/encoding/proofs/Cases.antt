@@ -1,4 +1,4 @@
--- Frames computed, and each refusal of the encoder. The frames are the only ones among all 512 parity words, as a separate computation
+-- Encoded words computed, and each refusal of the encoder. They are the only codewords among all 512 parity words, as a separate computation
 -- showed. Assumes nothing.
 use Prim.Native.Nat.{ℕ}
 use mathlib.Core.Path.{_≡_, refl}
@@ -14,8 +14,8 @@ use Rattle.graph.specs.Erasure.{any}
 use Rattle.exponent.specs.Plan.{entryAt, blockAt}
 use Rattle.exponent.specs.Limits.{planRules}
 use Rattle.bidiagonal.specs.Shape.{someMisplaced, shiftsOf, thirdShift, notBidiagonal}
-use Rattle.encoding.specs.Frame.{dataSum, lastBit, frontBit, frame}
-use Rattle.encoding.specs.Encode.{frameRules, encodeRules}
+use Rattle.encoding.specs.Encoded.{dataSum, lastBit, frontBit, encodedWord}
+use Rattle.encoding.specs.Encode.{codingRules, encodeRules}
 
 -- three rows and two data columns at P = 3, with voltages 3 and 4 for 0 and 1; the third shift is 2
 abbrev example : List ℤ
@@ -34,12 +34,12 @@ some-bits = 0 ∷ 1 ∷ 1 ∷ 1 ∷ 0 ∷ 1 ∷ []
 abbrev all-bits : List ℕ
 all-bits = 1 ∷ 1 ∷ 1 ∷ 1 ∷ 1 ∷ 1 ∷ []
 
-pub frames :
-    (frame example 3 5 3 2 one-bit ≡ 0 ∷ 1 ∷ 0 ∷ 1 ∷ 0 ∷ 1 ∷ 0 ∷ 1 ∷ 1 ∷ one-bit)
-    × (frame example 3 5 3 2 some-bits ≡ 1 ∷ 0 ∷ 1 ∷ 0 ∷ 1 ∷ 1 ∷ 0 ∷ 0 ∷ 0 ∷ some-bits)
-    × (frame example 3 5 3 2 all-bits ≡ 0 ∷ 0 ∷ 0 ∷ 1 ∷ 1 ∷ 1 ∷ 0 ∷ 0 ∷ 0 ∷ all-bits)
-unfolding frame frontBit lastBit dataSum sum range blockAt entryAt
-frames = (refl, refl, refl)
+pub words :
+    (encodedWord example 3 5 3 2 one-bit ≡ 0 ∷ 1 ∷ 0 ∷ 1 ∷ 0 ∷ 1 ∷ 0 ∷ 1 ∷ 1 ∷ one-bit)
+    × (encodedWord example 3 5 3 2 some-bits ≡ 1 ∷ 0 ∷ 1 ∷ 0 ∷ 1 ∷ 1 ∷ 0 ∷ 0 ∷ 0 ∷ some-bits)
+    × (encodedWord example 3 5 3 2 all-bits ≡ 0 ∷ 0 ∷ 0 ∷ 1 ∷ 1 ∷ 1 ∷ 0 ∷ 0 ∷ 0 ∷ all-bits)
+unfolding encodedWord frontBit lastBit dataSum sum range blockAt entryAt
+words = (refl, refl, refl)
 
 pub third : thirdShift example 3 5 3 ≡ some 2
 unfolding thirdShift shiftsOf range blockAt entryAt
@@ -122,5 +122,5 @@ cases =
     ∷ []
 
 pub refused : map (λ c. lowest (encodeRules (c .plan) (c .rows) (c .cols) (c .lift) (c .info) (c .room))) cases ≡ map (λ c. c .answer) cases
-unfolding encodeRules frameRules lowest planRules firstPlace notBidiagonal someMisplaced thirdShift shiftsOf any range blockAt entryAt
+unfolding encodeRules codingRules lowest planRules firstPlace notBidiagonal someMisplaced thirdShift shiftsOf any range blockAt entryAt
 refused = refl

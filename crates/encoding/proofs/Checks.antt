@@ -27,7 +27,7 @@ use Rattle.exponent.proofs.Tanner.{bits-of-check}
 use Rattle.bidiagonal.specs.Shape.{addShift, shiftsOf, thirdShift}
 use Rattle.bidiagonal.proofs.Thirds.{Twice, upper-two, outer-two, lower-two, twice}
 use Rattle.bidiagonal.proofs.Judging.{Diagonals}
-use Rattle.encoding.specs.Frame.{bitFor, dataSum, lastBit, frontBit, parityBit}
+use Rattle.encoding.specs.Encoded.{bitFor, dataSum, lastBit, frontBit, parityBit}
 use Rattle.encoding.specs.Work.{column}
 use Rattle.encoding.proofs.Data.{bitFor-same}
 

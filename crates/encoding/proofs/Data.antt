@@ -10,7 +10,7 @@ use Rattle.graph.proofs.Sums.{sum-same}
 use Rattle.exponent.specs.declared.block.Block.{Block}
 use Rattle.exponent.specs.declared.block.Block.the-variants.{Zero, Shift, Invalid}
 use Rattle.exponent.specs.Plan.{blockAt}
-use Rattle.encoding.specs.Frame.{bitFor, dataSum, lastBit, frontBit}
+use Rattle.encoding.specs.Encoded.{bitFor, dataSum, lastBit, frontBit}
 
 -- a block has the same bit in columns that agree
 pub bitFor-same : (lift y : ℕ) → 0 < lift → (p q : ℕ → ℕ) → ((z : ℕ) → z < lift → p z ≡ q z) → (b : Block) → bitFor lift y p b ≡ bitFor lift y q b

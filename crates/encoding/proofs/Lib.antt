@@ -1,6 +1,6 @@
 pub mod Data
 pub mod Checks
-pub mod Frames
+pub mod Words
 pub mod Only
 pub mod Runs
 pub mod Laying

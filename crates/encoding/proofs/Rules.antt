@@ -19,12 +19,12 @@ use Rattle.graph.proofs.Decide.{both-ways, by-bool, by-le, neither}
 use Rattle.exponent.specs.Limits.{planRules, WellFormed}
 use Rattle.exponent.proofs.Rules as plan-rules
 use Rattle.bidiagonal.specs.Shape.{notBidiagonal}
-use Rattle.encoding.specs.Encode.{badData, frameRules, encodeRules}
+use Rattle.encoding.specs.Encode.{badData, codingRules, encodeRules}
 use Rattle.encoding.specs.Work.{Bits, Greatest}
 
 -- the numbers of the refusals rise
 pub encode-rise : (plan : List ℤ) (rows cols lift : ℕ) (info : List ℕ) (room : ℕ) → rising (encodeRules plan rows cols lift info room) ≡ true
-unfolding encodeRules planRules frameRules
+unfolding encodeRules planRules codingRules
 encode-rise plan rows cols lift info room = refl
 
 -- 31: the length, and a byte above 1
@@ -58,25 +58,25 @@ good-data n info e =
 
 -- WHICH IS THE LOWEST, of 16, 30 and 31
 module _ (plan : List ℤ) (rows cols lift : ℕ) (info : List ℕ) (room : ℕ) where
-  pub refused-16 : room ≢ cols * lift → lowest (frameRules plan rows cols lift info room) ≡ some WordLength
-  unfolding frameRules
+  pub refused-16 : room ≢ cols * lift → lowest (codingRules plan rows cols lift info room) ≡ some WordLength
+  unfolding codingRules
   refused-16 d = lowest-here _ WordLength _ (rw (ne-eqb room (cols * lift) d))
 
   module _ (whole : room ≡ cols * lift) where
     right : not (eqb room (cols * lift)) ≡ false
     right = rw (eq-eqb room (cols * lift) whole)
 
-    pub refused-30 : notBidiagonal plan rows cols lift ≡ true → lowest (frameRules plan rows cols lift info room) ≡ some NotBidiagonal
-    unfolding frameRules
+    pub refused-30 : notBidiagonal plan rows cols lift ≡ true → lowest (codingRules plan rows cols lift info room) ≡ some NotBidiagonal
+    unfolding codingRules
     refused-30 e = lowest-next _ WordLength _ right ∙ lowest-here _ NotBidiagonal _ e
 
     module _ (shape : notBidiagonal plan rows cols lift ≡ false) where
-      pub refused-31 : badData ((cols - rows) * lift) info ≡ true → lowest (frameRules plan rows cols lift info room) ≡ some DataBits
-      unfolding frameRules
+      pub refused-31 : badData ((cols - rows) * lift) info ≡ true → lowest (codingRules plan rows cols lift info room) ≡ some DataBits
+      unfolding codingRules
       refused-31 e = lowest-next _ WordLength _ right ∙ lowest-next _ NotBidiagonal _ shape ∙ lowest-here _ DataBits [] e
 
-      pub none-refused : badData ((cols - rows) * lift) info ≡ false → lowest (frameRules plan rows cols lift info room) ≡ none
-      unfolding frameRules lowest
+      pub none-refused : badData ((cols - rows) * lift) info ≡ false → lowest (codingRules plan rows cols lift info room) ≡ none
+      unfolding codingRules lowest
       none-refused e = rw (right, shape, e)
 
 -- what plan and data have where nothing is refused
@@ -87,9 +87,9 @@ pub record Accepted (plan : List ℤ) (rows cols lift : ℕ) (info : List ℕ) :
   pub data-bits : Bits info
 
 pub accepted : (plan : List ℤ) (rows cols lift : ℕ) (info : List ℕ) (room : ℕ) → lowest (encodeRules plan rows cols lift info room) ≡ none → Accepted plan rows cols lift info
-unfolding encodeRules frameRules
+unfolding encodeRules codingRules
 accepted plan rows cols lift info room e =
-    let rules = frameRules plan rows cols lift info room in
+    let rules = codingRules plan rows cols lift info room in
     let (p, q) = none-append (planRules plan rows cols lift) rules .0 e in
     let (_, (shaped, (good, _))) = none-holds rules .0 q in
     let (whole, bits) = good-data ((cols - rows) * lift) info good in

@@ -12,7 +12,7 @@ use Rattle.graph.proofs.Sums.{sum-last}
 use Rattle.exponent.specs.declared.Shape.{Shape}
 use Rattle.exponent.specs.Plan.{blockAt}
 use Rattle.exponent.proofs.Numbers.{number-low}
-use Rattle.encoding.specs.Frame.{bitFor, dataSum, lastBit, frontBit}
+use Rattle.encoding.specs.Encoded.{bitFor, dataSum, lastBit, frontBit}
 use Rattle.encoding.specs.Work.{column, Added, Ready, Carrying, Laid, Summed, Settled}
 use Rattle.encoding.proofs.Data.{bitFor-same, dataSum-same}
 use Rattle.encoding.proofs.Adding.{added-ready, unturned}

@@ -1,4 +1,4 @@
--- What is written is the frame: data bits laid behind zeros, and the parity bits settled. Assumes nothing.
+-- What is written is the encoded word: data bits laid behind zeros, and the parity bits settled. Assumes nothing.
 use Prim.Native.Nat.{ℕ, _+_, _-_, _*_, _/_, _%_, _≤_, _<_}
 use mathlib.Core.Path.{_≡_, ap, subst, _∙_}
 use mathlib.Core.List.{List}
@@ -9,9 +9,9 @@ use lib.IntN.{ℤ}
 use lib.ListN.{length, getD}
 use Rattle.graph.proofs.Decide.{by-le}
 use Rattle.exponent.specs.declared.Shape.{Shape}
-use Rattle.encoding.specs.Frame.{parityBit, frame, Carries}
+use Rattle.encoding.specs.Encoded.{parityBit, encodedWord, Carries}
 use Rattle.encoding.specs.Work.{column, Bits, Settled, Fits, Cleared, Copied, Laid}
-use Rattle.encoding.proofs.Frames.{parts, carried-byte, carried-column, same-parity, frame-is}
+use Rattle.encoding.proofs.Words.{parts, carried-byte, carried-column, same-parity, encoded-is}
 
 module _ {plan : List ℤ} {s : Shape} {third : ℕ} {info word u w : List ℕ} (fits : Fits plan s third info word)
     (cleared : Cleared (s .rows * s .lift) word u) (copied : Copied (s .rows * s .lift) (length info) info u w) where
@@ -44,7 +44,7 @@ module _ {plan : List ℤ} {s : Shape} {third : ℕ} {info word u w : List ℕ} 
   pub laid : Laid plan s w
   laid = record { ready = record { formed = fits .formed; data-column = fits .data-column; whole = long; bits = laid-bits }; zero = zero }
 
-  -- THE FRAME
+  -- THE ENCODED WORD
   module _ {v : List ℕ} (settled : Settled plan s third (column (s .lift) w) (s .rows - 1) v) where
     some-lift : 0 < s .lift
     some-lift = fits .formed .some-lift
@@ -67,8 +67,8 @@ module _ {plan : List ℤ} {s : Shape} {third : ℕ} {info word u w : List ℕ} 
         rw (le-ltb k (s .rows - 1) q) (ap (λ (n : ℕ). column (s .lift) v n z) e ∙ settled .last z l))
         (λ q. rw (lt-ltb k (s .rows - 1) q) (settled .done k z q l))
 
-    pub frame-written : v ≡ frame plan (s .rows) (s .cols) (s .lift) third info
-    frame-written =
-        frame-is plan (s .rows) (s .cols) (s .lift) third some-lift info v (settled .ready .whole ∙ whole) kept λ k z h l.
+    pub encoded-written : v ≡ encodedWord plan (s .rows) (s .cols) (s .lift) third info
+    encoded-written =
+        encoded-is plan (s .rows) (s .cols) (s .lift) third some-lift info v (settled .ready .whole ∙ whole) kept λ k z h l.
         parity-at k z h l
         ∙ same-parity plan (s .rows) (s .cols) (s .lift) third some-lift info (column (s .lift) w) (λ j y p q. carried-column (s .rows) (s .lift) info w (long ∙ whole) carries j y p) k z

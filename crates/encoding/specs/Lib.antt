@@ -1,3 +1,3 @@
-pub mod Frame
+pub mod Encoded
 pub mod Encode
 pub mod Work

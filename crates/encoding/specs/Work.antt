@@ -8,7 +8,7 @@ use lib.ListN.{length, getD}
 use Rattle.graph.specs.Count.{below, sum}
 use Rattle.exponent.specs.declared.Shape.{Shape}
 use Rattle.exponent.specs.Limits.{WellFormed}
-use Rattle.encoding.specs.Frame.{dataSum, lastBit, frontBit}
+use Rattle.encoding.specs.Encoded.{dataSum, lastBit, frontBit}
 
 abbrev pub column : ℕ → List ℕ → ℕ → ℕ → ℕ
 column lift w j z = getD w (j * lift + z) 0
@@ -80,7 +80,7 @@ pub record Settled (plan : List ℤ) (s : Shape) (third : ℕ) (bit : ℕ → �
 pub record FrontSettled (plan : List ℤ) (s : Shape) (w v : List ℕ) : Type 0 where
   pub settled : (third : ℕ) (bit : ℕ → ℕ → ℕ) → Settled plan s third bit 0 w → Settled plan s third bit (s .rows - 1) v
 
--- what the writer of a frame is given: a valid plan with a data column, its third shift, data bits, and a word of the right length
+-- what the writer of an encoded word is given: a valid plan with a data column, its third shift, data bits, and a word of the right length
 pub record Fits (plan : List ℤ) (s : Shape) (third : ℕ) (info word : List ℕ) : Type 0 where
   pub formed : WellFormed plan (s .rows) (s .cols) (s .lift)
   pub data-column : s .rows < s .cols

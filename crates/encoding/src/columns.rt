@@ -5,7 +5,7 @@ use exponent::position;
 ghost use mathlib.Core.Logic.{_≢_};
 ghost use Prim.Native.Nat.{_+_, _%_, _<_};
 ghost use Rattle.exponent.specs.Plan.{blockAt};
-ghost use Rattle.encoding.specs.Frame.{bitFor, dataSum};
+ghost use Rattle.encoding.specs.Encoded.{bitFor, dataSum};
 ghost use Rattle.encoding.specs.Work.{Bits, Apart, AddedRun, Columns, Added, column, Ready};
 
 // Adds, modulo 2, n bytes of a word to n others.

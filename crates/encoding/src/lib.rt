@@ -1,22 +1,22 @@
-// The encoder (document 02, slip 10): the frame of given data bits, for plans of the bi-diagonal shape.
+// The encoder (document 02, slip 10): the codeword (code frame) of given data bits, for plans of the bi-diagonal shape.
 ghost use mathlib.Core.Path.{_≡_};
 ghost use Prim.Native.Nat.{max};
 ghost use lib.ListN.{length};
 ghost use Rattle.refusal.specs.Lowest.{lowest};
 ghost use Rattle.refusal.specs.Lent.{lent};
 ghost use Rattle.exponent.specs.Limits.{WellFormed};
-ghost use Rattle.encoding.specs.Encode.{badData, frameRules, frameOf, encodeRefusal, encoding, afterEncode};
+ghost use Rattle.encoding.specs.Encode.{badData, codingRules, wordOf, encodeRefusal, encoding, afterEncode};
 ghost use Rattle.encoding.specs.Work.{Greatest};
 
 mod columns; // columns.rt: columns of a word added to another
-mod frame; // frame.rt: the frame, column by column
+mod parity; // parity.rt: the parity bits, column by column
 
 use bidiagonal::Third;
 use exponent::Shape;
 use exponent::Validity;
 use refusal::Refusal;
 
-// What the call answers: the frame stands in the lent word, or a refusal.
+// What the call answers: the codeword stands in the lent word, or a refusal.
 pub enum Encoding {
     Encoded,
     Refused(Refusal),
@@ -52,11 +52,11 @@ fn is_bad(info: &[u8], n: usize) -> bool
     1 < greatest(info)
 }
 
-// Encodes for a valid plan: refusals 16, 30 and 31, or the frame.
+// Encodes for a valid plan: refusals 16, 30 and 31, or the codeword.
 fn encode_valid(plan: &[i16], shape: Shape, info: &[u8], word: &mut [u8]) -> Encoding
     requires { ⌜ WellFormed (now plan) (shape .rows) (shape .cols) (shape .lift) ⌝ }
-    ensures answer { λ r. ⌜ r ≡ encoding (lowest (frameRules (now (plan .entry)) (shape .rows) (shape .cols) (shape .lift) (now (info .entry)) (length (now (word .entry))))) ⌝ }
-    ensures word { λ _. ⌜ now (word .exit) ≡ lent (lowest (frameRules (now (plan .entry)) (shape .rows) (shape .cols) (shape .lift) (now (info .entry)) (length (now (word .entry))))) (frameOf (now (plan .entry)) (shape .rows) (shape .cols) (shape .lift) (now (info .entry))) (now (word .entry)) ⌝ }
+    ensures answer { λ r. ⌜ r ≡ encoding (lowest (codingRules (now (plan .entry)) (shape .rows) (shape .cols) (shape .lift) (now (info .entry)) (length (now (word .entry))))) ⌝ }
+    ensures word { λ _. ⌜ now (word .exit) ≡ lent (lowest (codingRules (now (plan .entry)) (shape .rows) (shape .cols) (shape .lift) (now (info .entry)) (length (now (word .entry))))) (wordOf (now (plan .entry)) (shape .rows) (shape .cols) (shape .lift) (now (info .entry))) (now (word .entry)) ⌝ }
 {
     if word.len() != shape.cols * shape.lift {
         return Encoding::Refused(Refusal::WordLength);
@@ -67,13 +67,13 @@ fn encode_valid(plan: &[i16], shape: Shape, info: &[u8], word: &mut [u8]) -> Enc
             if is_bad(info, (shape.cols - shape.rows) * shape.lift) {
                 return Encoding::Refused(Refusal::DataBits);
             }
-            frame::write(plan, shape, third, info, word);
+            parity::write(plan, shape, third, info, word);
             Encoding::Encoded
         }
     }
 }
 
-// Writes the only code frame with the given data bits into the lent word, or turns the caller away and leaves the word as it is. What the
+// Writes the only codeword with the given data bits into the lent word, or turns the caller away and leaves the word as it is. What the
 // word holds before is not read.
 pub fn encode(
     plan: &[i16],

@@ -17,7 +17,7 @@ use Rattle.exponent.specs.Plan.{blockOf, entryAt, blockAt}
 use Rattle.exponent.specs.Limits.{planRules}
 use Rattle.bidiagonal.specs.Shape.{notBidiagonal}
 use Rattle.bidiagonal.proofs.Words.{ByBlocks, shape-exactly}
-use Rattle.encoding.specs.Encode.{badData, frameRules, encodeRules}
+use Rattle.encoding.specs.Encode.{badData, codingRules, encodeRules}
 use Rattle.promises.specs.TurnedAway.{PlanRow, Voltage, leaves, Bidiagonal, EncodeRow, lent-word, row-30, row-31, _or_}
 use Rattle.promises.proofs.Matching.{Listed, RowOf, Matches, join, by-rule, no-rule, at-rule, further}
 use Rattle.promises.proofs.PlanRows.{differs, plan-matches}
@@ -85,16 +85,16 @@ module _ (plan : List ℤ) (rows cols lift : ℕ) (info : List ℕ) (room : ℕ)
   abbrev Row : Refusal → Type 0
   Row = RowOf (EncodeRow plan rows cols lift info room)
 
-  listed : (s : Refusal) → In (refuse s true) (frameRules plan rows cols lift info room) → Row s
-  unfolding frameRules
+  listed : (s : Refusal) → In (refuse s true) (codingRules plan rows cols lift info room) → Row s
+  unfolding codingRules
   listed s i =
       by-rule Row WordLength (not (eqb room (cols * lift))) _ s i (λ e. lent-word (differs room (cols * lift) .0 e)) λ i.
       by-rule Row NotBidiagonal (notBidiagonal plan rows cols lift) _ s i (λ e. row-30 (shaped plan rows cols lift .0 e)) λ i.
       by-rule Row DataBits (badData ((cols - rows) * lift) info) [] s i (λ e. row-31 (bytes-exactly ((cols - rows) * lift) info .0 e)) λ i.
       no-rule Row s i
 
-  applies : (n : ℕ) (l : List ℕ) → EncodeRow plan rows cols lift info room n l → Listed (frameRules plan rows cols lift info room) n l
-  unfolding frameRules
+  applies : (n : ℕ) (l : List ℕ) → EncodeRow plan rows cols lift info room n l → Listed (codingRules plan rows cols lift info room) n l
+  unfolding codingRules
   applies n l (lent-word h) = at-rule _ _ refl refl (differs room (cols * lift) .1 h)
   applies n l (row-30 h) = further (at-rule _ _ refl refl (shaped plan rows cols lift .1 h))
   applies n l (row-31 h) = further (further (at-rule _ _ refl refl (bytes-exactly ((cols - rows) * lift) info .1 h)))
@@ -102,4 +102,4 @@ module _ (plan : List ℤ) (rows cols lift : ℕ) (info : List ℕ) (room : ℕ)
   pub encode-matches : Matches (encodeRules plan rows cols lift info room) (PlanRow plan rows cols lift or EncodeRow plan rows cols lift info room)
   unfolding encodeRules
   encode-matches =
-      join (planRules plan rows cols lift) (frameRules plan rows cols lift info room) _ _ (plan-matches plan rows cols lift) (record { listed = λ s i. inl (listed s i); applies = applies })
+      join (planRules plan rows cols lift) (codingRules plan rows cols lift info room) _ _ (plan-matches plan rows cols lift) (record { listed = λ s i. inl (listed s i); applies = applies })

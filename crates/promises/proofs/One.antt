@@ -40,7 +40,7 @@ use Rattle.steiner.specs.System.{cols}
 use Rattle.steiner.specs.Build as steiner-build
 use Rattle.steiner.proofs.Plans as steiner-rules
 use Rattle.crt.specs.Join.{joinedPlan, joinRefusal, joining}
-use Rattle.encoding.specs.Encode.{frameOf, encodeRefusal, encoding}
+use Rattle.encoding.specs.Encode.{wordOf, encodeRefusal, encoding}
 use Rattle.encoding.proofs.Rules.{encode-rise}
 use Rattle.alist.specs.Calls.{alistText, writeRules, written, laid, comparison}
 use Rattle.alist.proofs.Answers as text-rules
@@ -189,7 +189,7 @@ promise-1 =
       encode = λ plan rows cols lift info word.
           let e = in-encoding (encodeRefusal plan rows cols lift info word) in (
             answered _ _ _ (encode-rise plan rows cols lift info (length word)) (encode-matches plan rows cols lift info (length word)) e,
-            kept (λ o. lent o (frameOf plan rows cols lift info) word) word (λ r. refl) _ _ e,
+            kept (λ o. lent o (wordOf plan rows cols lift info) word) word (λ r. refl) _ _ e,
           );
       write = λ plan rows cols lift byrow bycol place. (
         answered _ _ _ (text-rules.write-rise plan rows cols lift byrow bycol place) (write-matches plan rows cols lift byrow bycol place) (in-written _ _),

@@ -1,5 +1,5 @@
 -- Slip 4 of the encoder: it looks at a plan by refusals 1 to 6 and by its blocks, so plans with the same remainders get the same answer and
--- the same frame. Assumes nothing.
+-- the same word. Assumes nothing.
 use Prim.Native.Nat.{ℕ, _+_, _-_, _*_, _/_, _%_}
 use mathlib.Core.Path.{_≡_, ap}
 use mathlib.Core.Bool.{cond, not, _||_}
@@ -11,8 +11,8 @@ use Rattle.graph.specs.Erasure.{any}
 use Rattle.exponent.specs.Remainders.{SameRemainders}
 use Rattle.exponent.proofs.Remainders.{same-rules, same-block}
 use Rattle.bidiagonal.specs.Shape.{tooFew, misplaced, someMisplaced, shiftsOf, third, thirdShift, notBidiagonal}
-use Rattle.encoding.specs.Frame.{bitFor, dataSum, lastBit, frontBit, dataBit, frame}
-use Rattle.encoding.specs.Encode.{frameRules, encodeRules, encodeRefusal, encoding, afterEncode}
+use Rattle.encoding.specs.Encoded.{bitFor, dataSum, lastBit, frontBit, dataBit, encodedWord}
+use Rattle.encoding.specs.Encode.{codingRules, encodeRules, encodeRefusal, encoding, afterEncode}
 
 module _ (lift : ℕ) {p q : List ℤ} (same : SameRemainders lift p q) (rows cols : ℕ) where
   -- the shape
@@ -24,7 +24,7 @@ module _ (lift : ℕ) {p q : List ℤ} (same : SameRemainders lift p q) (rows co
   unfolding notBidiagonal someMisplaced
   same-shape = λ k. tooFew rows cols || (any rows (λ i. any (rows - 1) (λ j. misplaced i j (same-block lift same rows cols i j k))) || not (isSome (same-third k)))
 
-  -- the frame
+  -- the encoded word
   module _ (bit : ℕ → ℕ → ℕ) where
     same-data : (i y : ℕ) → dataSum p rows cols lift bit i y ≡ dataSum q rows cols lift bit i y
     unfolding dataSum
@@ -38,20 +38,20 @@ module _ (lift : ℕ) {p q : List ℤ} (same : SameRemainders lift p q) (rows co
     unfolding frontBit
     same-front b j y = λ k. sum (λ i. same-data i y k + bitFor lift y (λ z. same-last b z k) (same-block lift same rows cols i (rows - 1) k)) (below (j + 1)) % 2
 
-  same-frame : (b : ℕ) (info : List ℕ) → frame p rows cols lift b info ≡ frame q rows cols lift b info
-  unfolding frame
-  same-frame b info =
+  same-word : (b : ℕ) (info : List ℕ) → encodedWord p rows cols lift b info ≡ encodedWord q rows cols lift b info
+  unfolding encodedWord
+  same-word b info =
       λ k.
       map (λ n. cond (ltb (n / lift) (rows - 1)) (same-front (dataBit rows lift info) b (n / lift) (n % lift) k) (same-last (dataBit rows lift info) b (n % lift) k)) (below (rows * lift))
       ++ info
 
   -- the call
   same-refusal : (info word : List ℕ) → encodeRefusal p rows cols lift info word ≡ encodeRefusal q rows cols lift info word
-  unfolding encodeRules frameRules
+  unfolding encodeRules codingRules
   same-refusal info word = rw (same-rules lift same rows cols, same-shape)
 
   pub same-encoding : (info word : List ℕ) → encoding (encodeRefusal p rows cols lift info word) ≡ encoding (encodeRefusal q rows cols lift info word)
   same-encoding info word = ap encoding (same-refusal info word)
 
   pub same-encoded : (info word : List ℕ) → afterEncode p rows cols lift info word ≡ afterEncode q rows cols lift info word
-  same-encoded info word = rw (same-refusal info word, same-third, same-frame)
+  same-encoded info word = rw (same-refusal info word, same-third, same-word)

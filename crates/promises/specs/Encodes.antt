@@ -9,18 +9,18 @@ use Rattle.exponent.specs.Tanner.{tanner}
 use Rattle.syndrome.specs.declared.Syndrome.the-variants.{Even}
 use Rattle.syndrome.specs.Check.{syndromeOf}
 use Rattle.encoding.specs.declared.Encoding.the-variants.{Encoded}
-use Rattle.encoding.specs.Frame.{Carries}
+use Rattle.encoding.specs.Encoded.{Carries}
 use Rattle.encoding.specs.Encode.{encodeRefusal, encoding, afterEncode}
 
-pub record Encodes (plan : List ℤ) (rows cols lift : ℕ) (info frame : List ℕ) : Type 0 where
+pub record Encodes (plan : List ℤ) (rows cols lift : ℕ) (info word : List ℕ) : Type 0 where
   -- a code frame with these data bits, and the only one;
-  pub code-frame : Codeword (tanner plan rows cols lift) frame
-  pub carries : Carries (rows * lift) info frame
-  pub only : (v : List ℕ) → Codeword (tanner plan rows cols lift) v → Carries (rows * lift) info v → v ≡ frame
+  pub codeword : Codeword (tanner plan rows cols lift) word
+  pub carries : Carries (rows * lift) info word
+  pub only : (v : List ℕ) → Codeword (tanner plan rows cols lift) v → Carries (rows * lift) info v → v ≡ word
   -- the frame check calls it even
-  pub even : syndromeOf plan rows cols lift frame ≡ Even
+  pub even : syndromeOf plan rows cols lift word ≡ Even
 
-pub record EncodedFrames : Type 0 where
+pub record EncodedWords : Type 0 where
   -- wherever the call answers that it encoded, of what the lent word then holds
   pub encoded : (plan : List ℤ) (rows cols lift : ℕ) (info word : List ℕ) → encoding (encodeRefusal plan rows cols lift info word) ≡ Encoded
       → Encodes plan rows cols lift info (afterEncode plan rows cols lift info word)

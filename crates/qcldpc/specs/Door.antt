@@ -116,7 +116,7 @@ abbrev pub joinedReply : Joining → Reply
 joinedReply (Joined lift) = One lift
 joinedReply (NotJoined r) = Refuses r
 
--- the frame is in the word
+-- the codeword is in the lent word
 abbrev pub encodedReply : Encoding → Reply
 encodedReply Encoded = Nothing
 encodedReply (NotEncoded r) = Refuses r

@@ -141,7 +141,7 @@ pub extern "C" fn qcldpc_fill(
     reply::give(r, out)
 }
 
-// The encoder: the word then holds the frame of the data bits. Nothing is put into `out` but a refusal's values.
+// The encoder: the word then holds the codeword of the data bits. Nothing is put into `out` but a refusal's values.
 #[no_mangle]
 pub extern "C" fn qcldpc_encode(
     plan: &[i16],

@@ -203,7 +203,7 @@ pub fn joined(j: Joining) -> Reply
     }
 }
 
-// The frame is in the word.
+// The codeword is in the lent word.
 pub fn encoded(e: Encoding) -> Reply
     ensures { λ r. ⌜ r ≡ encodedReply e ⌝ }
 {

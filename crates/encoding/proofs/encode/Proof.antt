@@ -9,7 +9,7 @@ use Rattle.refusal.specs.Lent.{lent}
 use Rattle.refusal.proofs.Lowest.{lowest-accepted, lowest-refused}
 use Rattle.exponent.specs.Limits.{planRules}
 use Rattle.exponent.proofs.Rules.{accepted, valid-none, refused-some}
-use Rattle.encoding.specs.Encode.{frameRules, encodeRules, frameOf, encoding}
+use Rattle.encoding.specs.Encode.{codingRules, encodeRules, wordOf, encoding}
 use Rattle.encoding.proofs.encode.Statement.{statement}
 use Rattle.encoding.proofs.encode.Tie as tie
 
@@ -34,9 +34,9 @@ unfolding encodeRules
 returns c =
     let v = c .before .before .before in
     let a = v .before .before .before .args in
-    let e = lowest-refused (planRules (a .plan .now) (a .rows) (a .cols) (a .lift)) (frameRules (a .plan .now) (a .rows) (a .cols) (a .lift) (a .info .now) (length (a .word .now))) _
+    let e = lowest-refused (planRules (a .plan .now) (a .rows) (a .cols) (a .lift)) (codingRules (a .plan .now) (a .rows) (a .cols) (a .lift) (a .info .now) (length (a .word .now))) _
     (refused-some _ _ (sym (v .validate .ensures) ∙ c .before .r .given .1)) in
-    (sym (ap encoding e), sym (ap (λ (o : Option Refusal). lent o (frameOf (a .plan .now) (a .rows) (a .cols) (a .lift) (a .info .now)) (a .word .now)) e))
+    (sym (ap encoding e), sym (ap (λ (o : Option Refusal). lent o (wordOf (a .plan .now) (a .rows) (a .cols) (a .lift) (a .info .now)) (a .word .now)) e))
 
 same-length : tie.Need-same-length
 same-length c = search needs
@@ -47,9 +47,9 @@ returns-2 c =
     let v = c .before .before in
     let t = v .before .before in
     let a = t .before .before .before .before .before .args in
-    let e = lowest-accepted (planRules (a .plan .now) (a .rows) (a .cols) (a .lift)) (frameRules (a .plan .now) (a .rows) (a .cols) (a .lift) (a .info .now) (length (a .word .now))) (valid t) in (
+    let e = lowest-accepted (planRules (a .plan .now) (a .rows) (a .cols) (a .lift)) (codingRules (a .plan .now) (a .rows) (a .cols) (a .lift) (a .info .now) (length (a .word .now))) (valid t) in (
       v .encode-valid .ensures .0 ∙ sym (ap encoding e),
-      v .encode-valid .ensures .1 ∙ sym (ap (λ (o : Option Refusal). lent o (frameOf (a .plan .now) (a .rows) (a .cols) (a .lift) (a .info .now)) (a .word .now)) e),
+      v .encode-valid .ensures .1 ∙ sym (ap (λ (o : Option Refusal). lent o (wordOf (a .plan .now) (a .rows) (a .cols) (a .lift) (a .info .now)) (a .word .now)) e),
     )
 
 pub encode-spec : {M : Type 1} → statement M

@@ -1,4 +1,4 @@
--- `encoding::encode_valid` meets its contract: the word's length, the shape, the data, and then the frame. Assumes nothing.
+-- `encoding::encode_valid` meets its contract: the word's length, the shape, the data, and then the codeword. Assumes nothing.
 use Prim.Native.Nat.{ℕ, _-_, _*_, _≤_, _<_}
 use mathlib.Core.Path.{_≡_, sym, ap, _∙_}
 use mathlib.Core.Bool.{false}
@@ -11,26 +11,26 @@ use Rattle.refusal.specs.Lowest.{lowest}
 use Rattle.refusal.specs.Lent.{lent}
 use Rattle.bidiagonal.specs.Shape.{notBidiagonal, thirdShift}
 use Rattle.bidiagonal.proofs.Judging.{judged-another, judged-bidiagonal, many, third-low}
-use Rattle.encoding.specs.Frame.{frame}
-use Rattle.encoding.specs.Encode.{frameRules, frameOf, orZero, encoding}
+use Rattle.encoding.specs.Encoded.{encodedWord}
+use Rattle.encoding.specs.Encode.{codingRules, wordOf, orZero, encoding}
 use Rattle.encoding.proofs.Rules.{good-data, refused-16, refused-30, refused-31, none-refused}
-use Rattle.encoding.proofs.Frames.{parts}
+use Rattle.encoding.proofs.Words.{parts}
 use Rattle.encoding.proofs.encode_valid.Statement.{statement}
 use Rattle.encoding.proofs.encode_valid.Tie as tie
 
 module _ (s : tie.Start) where
   -- why the call is refused
   abbrev refusal : Option Refusal
-  refusal = let a = s .args in lowest (frameRules (a .plan .now) (a .shape .rows) (a .shape .cols) (a .shape .lift) (a .info .now) (length (a .word .now)))
+  refusal = let a = s .args in lowest (codingRules (a .plan .now) (a .shape .rows) (a .shape .cols) (a .shape .lift) (a .info .now) (length (a .word .now)))
 
   -- the answer, and what the word then holds, from what the refusals give
   module _ (o : Option Refusal) (e : refusal ≡ o) where
     answers : encoding o ≡ encoding refusal
     answers = sym (ap encoding e)
 
-    leaves : let a = s .args in lent o (frameOf (a .plan .now) (a .shape .rows) (a .shape .cols) (a .shape .lift) (a .info .now)) (a .word .now)
-        ≡ lent refusal (frameOf (a .plan .now) (a .shape .rows) (a .shape .cols) (a .shape .lift) (a .info .now)) (a .word .now)
-    leaves = let a = s .args in sym (ap (λ (x : Option Refusal). lent x (frameOf (a .plan .now) (a .shape .rows) (a .shape .cols) (a .shape .lift) (a .info .now)) (a .word .now)) e)
+    leaves : let a = s .args in lent o (wordOf (a .plan .now) (a .shape .rows) (a .shape .cols) (a .shape .lift) (a .info .now)) (a .word .now)
+        ≡ lent refusal (wordOf (a .plan .now) (a .shape .rows) (a .shape .cols) (a .shape .lift) (a .info .now)) (a .word .now)
+    leaves = let a = s .args in sym (ap (λ (x : Option Refusal). lent x (wordOf (a .plan .now) (a .shape .rows) (a .shape .cols) (a .shape .lift) (a .info .now)) (a .word .now)) e)
 
 -- the start, from behind the judgement of the shape
 abbrev start : tie.After-judge → tie.Start
@@ -129,7 +129,7 @@ returns-4 c =
     let s = start (t .before .before) in
     let a = s .args in
     let e = none-refused (a .plan .now) (a .shape .rows) (a .shape .cols) (a .shape .lift) (a .info .now) (length (a .word .now)) (whole b) (shaped t .0) (sym (b .is-bad .ensures) ∙ w .before .before .if2 .left) in
-    let is-third = ap (λ (o : Option ℕ). frame (a .plan .now) (a .shape .rows) (a .shape .cols) (a .shape .lift) (orZero o) (a .info .now)) (shaped t .1) in
+    let is-third = ap (λ (o : Option ℕ). encodedWord (a .plan .now) (a .shape .rows) (a .shape .cols) (a .shape .lift) (orZero o) (a .info .now)) (shaped t .1) in
     (answers s none e, w .write .ensures ∙ sym is-third ∙ leaves s none e)
 
 pub encode-valid-spec : {M : Type 1} → statement M

@@ -8,7 +8,7 @@ use Rattle.exponent.specs.declared.block.Block.the-variants.{Shift}
 use Rattle.exponent.specs.Plan.{filled, blockAt}
 use Rattle.exponent.proofs.Numbers.{number-low}
 use Rattle.exponent.proofs.Tanner.{shift-low}
-use Rattle.encoding.specs.Frame.{bitFor}
+use Rattle.encoding.specs.Encoded.{bitFor}
 use Rattle.encoding.specs.Work.{column, Added}
 use Rattle.encoding.proofs.Adding.{two-columns, added-same, block-none, turned}
 use borrow.Author.Needs.{needs}

@@ -3,7 +3,7 @@ use Prim.Native.Nat.{_-_, _≤_}
 use mathlib.Core.Path.{_≡_}
 use native.Mathlib.Omega.{arith}
 use Rattle.graph.specs.Count.{range, sum}
-use Rattle.encoding.specs.Frame.{dataSum}
+use Rattle.encoding.specs.Encoded.{dataSum}
 use Rattle.encoding.specs.Work.{Added}
 use Rattle.encoding.proofs.Adding.{added-ready, bitsOf, columns-none, columns-more}
 use Rattle.encoding.proofs.columns.add_data.Statement.{statement}

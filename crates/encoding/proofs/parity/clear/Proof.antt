@@ -1,11 +1,11 @@
--- `encoding::frame::clear` meets its contract: k bytes are 0. Assumes nothing.
+-- `encoding::parity::clear` meets its contract: k bytes are 0. Assumes nothing.
 use Prim.Native.Nat.{_≤_, _-_}
 use mathlib.Core.Path.{_≡_}
 use native.Mathlib.Omega.{arith}
 use Rattle.encoding.specs.Work.{Cleared}
 use Rattle.encoding.proofs.Laying.{cleared-none, cleared-more}
-use Rattle.encoding.proofs.frame.clear.Statement.{statement}
-use Rattle.encoding.proofs.frame.clear.Tie as tie
+use Rattle.encoding.proofs.parity.clear.Statement.{statement}
+use Rattle.encoding.proofs.parity.clear.Tie as tie
 
 abbrev Inv-loop : tie.InvT-loop
 Inv-loop word₀ n k₀ word k = (k ≤ n) × Cleared k word₀ word

@@ -1,4 +1,4 @@
--- `encoding::frame::sum_rows` meets its contract: the rows before i are summed, and then the last one. Assumes nothing.
+-- `encoding::parity::sum_rows` meets its contract: the rows before i are summed, and then the last one. Assumes nothing.
 use Prim.Native.Nat.{_-_, _≤_, _<_}
 use mathlib.Core.Path.{_≡_, sym, _∙_}
 use native.Mathlib.Omega.{arith}
@@ -6,8 +6,8 @@ use native.Mathlib.Nat.{mod-lt}
 use Rattle.encoding.specs.Work.{column, Summed}
 use Rattle.encoding.proofs.Adding.{added-ready, two-columns}
 use Rattle.encoding.proofs.Steps.{summed-none, summed-more, summed-all}
-use Rattle.encoding.proofs.frame.sum_rows.Statement.{statement}
-use Rattle.encoding.proofs.frame.sum_rows.Tie as tie
+use Rattle.encoding.proofs.parity.sum_rows.Statement.{statement}
+use Rattle.encoding.proofs.parity.sum_rows.Tie as tie
 
 abbrev Inv-loop : tie.InvT-loop
 Inv-loop plan shape third word₀ last lift turn i₀ word i = (i ≤ last) × Summed plan shape turn (column (shape .lift) word₀) i word

@@ -1,12 +1,12 @@
--- `encoding::frame::settle_front` meets its contract: the columns before k are settled, whatever the third shift and the data bits. Assumes nothing.
+-- `encoding::parity::settle_front` meets its contract: the columns before k are settled, whatever the third shift and the data bits. Assumes nothing.
 use Prim.Native.Nat.{ℕ, _-_, _≤_}
 use mathlib.Core.Path.{_≡_, sym, subst, _∙_}
 use native.Mathlib.Omega.{arith}
 use Rattle.encoding.specs.Work.{Ready, Settled}
 use Rattle.encoding.proofs.Adding.{added-ready, two-columns}
 use Rattle.encoding.proofs.Steps.{settled-first, settled-more}
-use Rattle.encoding.proofs.frame.settle_front.Statement.{statement}
-use Rattle.encoding.proofs.frame.settle_front.Tie as tie
+use Rattle.encoding.proofs.parity.settle_front.Statement.{statement}
+use Rattle.encoding.proofs.parity.settle_front.Tie as tie
 
 abbrev Inv-loop : tie.InvT-loop
 Inv-loop plan shape word₀ last lift k₀ word k =

@@ -1,12 +1,12 @@
--- `encoding::frame::copy` meets its contract: k bytes are copied. Assumes nothing.
+-- `encoding::parity::copy` meets its contract: k bytes are copied. Assumes nothing.
 use Prim.Native.Nat.{_≤_, _-_}
 use mathlib.Core.Path.{_≡_}
 use native.Mathlib.Omega.{arith}
 use lib.ListN.{length}
 use Rattle.encoding.specs.Work.{Copied}
 use Rattle.encoding.proofs.Laying.{copied-none, copied-more}
-use Rattle.encoding.proofs.frame.copy.Statement.{statement}
-use Rattle.encoding.proofs.frame.copy.Tie as tie
+use Rattle.encoding.proofs.parity.copy.Statement.{statement}
+use Rattle.encoding.proofs.parity.copy.Tie as tie
 
 abbrev Inv-loop : tie.InvT-loop
 Inv-loop info start word₀ k₀ word k = (k ≤ length info) × Copied start k info word₀ word

@@ -4,7 +4,7 @@ use exponent::position;
 ghost use mathlib.Core.Path.{_≡_};
 ghost use Prim.Native.Nat.{_+_, _*_, _<_, _≤_};
 ghost use lib.ListN.{length};
-ghost use Rattle.encoding.specs.Frame.{frame};
+ghost use Rattle.encoding.specs.Encoded.{encodedWord};
 ghost use Rattle.encoding.specs.Work.{column, Cleared, Copied, Ready, Laid, Settled, FrontSettled, Fits};
 
 // Sets the first n bytes of a word to 0.
@@ -65,10 +65,10 @@ fn settle_front(plan: &[i16], shape: Shape, word: &mut [u8])
     }
 }
 
-// Writes the frame of the data bits. What the word holds before is not read.
+// Writes the codeword of the data bits. What the word holds before is not read.
 pub fn write(plan: &[i16], shape: Shape, third: usize, info: &[u8], word: &mut [u8])
     requires { ⌜ Fits (now plan) shape third (now info) (now word) × (2 ≤ shape .rows) ⌝ }
-    ensures { λ _. ⌜ now (word .exit) ≡ frame (now (plan .entry)) (shape .rows) (shape .cols) (shape .lift) third (now (info .entry)) ⌝ }
+    ensures { λ _. ⌜ now (word .exit) ≡ encodedWord (now (plan .entry)) (shape .rows) (shape .cols) (shape .lift) third (now (info .entry)) ⌝ }
 {
     let start = shape.rows * shape.lift;
     clear(word, start);

@@ -1,12 +1,12 @@
--- `cases::frames::count` is safe. The loop's invariant: the count is at most the bytes passed. The measure is how many are left.
+-- `cases::encodings::count` is safe. The loop's invariant: the count is at most the bytes passed. The measure is how many are left.
 -- Assumes nothing.
 use Prim.Native.Nat.{_-_, _≤_}
 use mathlib.Core.Logic.{⊎-elim}
 use native.Mathlib.Omega.{arith}
 use lib.ListN.{length}
 use borrow.Author.Needs.{needs}
-use Rattle.cases.proofs.frames.count.Statement.{statement}
-use Rattle.cases.proofs.frames.count.Tie as tie
+use Rattle.cases.proofs.encodings.count.Statement.{statement}
+use Rattle.cases.proofs.encodings.count.Tie as tie
 
 abbrev Inv-loop : tie.InvT-loop
 Inv-loop list byte n₀ k₀ k-end n k = n ≤ k

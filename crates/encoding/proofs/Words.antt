@@ -1,4 +1,4 @@
--- The bytes of a frame: its parity bits, and the data bits behind them. Assumes nothing.
+-- The bytes of an encoded word: its parity bits, and the data bits behind them. Assumes nothing.
 use Prim.Native.Nat.{ℕ, _+_, _-_, _*_, _/_, _%_, _≤_, _<_}
 use mathlib.Core.Path.{_≡_, sym, ap, ap₂, _∙_}
 use mathlib.Core.Bool.{cond}
@@ -13,7 +13,7 @@ use Rattle.graph.specs.Count.{below}
 use Rattle.graph.proofs.Decide.{by-bool, by-le}
 use Rattle.graph.proofs.Count.{getD-map-below, length-map-below}
 use Rattle.exponent.proofs.Numbers.{number-low, block-of, place-of, block-low}
-use Rattle.encoding.specs.Frame.{lastBit, frontBit, parityBit, dataBit, frame, Carries}
+use Rattle.encoding.specs.Encoded.{lastBit, frontBit, parityBit, dataBit, encodedWord, Carries}
 use Rattle.encoding.specs.Work.{column}
 use Rattle.encoding.proofs.Data.{lastBit-same, frontBit-same}
 
@@ -63,34 +63,34 @@ module _ (plan : List ℤ) (rows cols lift third : ℕ) (some-lift : 0 < lift) (
   parities-length : length parities ≡ rows * lift
   parities-length = length-map-below parityAt (rows * lift)
 
-  pub frame-length : length (frame plan rows cols lift third info) ≡ rows * lift + length info
-  unfolding frame
-  frame-length = length-append parities info ∙ omega (arith, parities-length)
+  pub encoded-length : length (encodedWord plan rows cols lift third info) ≡ rows * lift + length info
+  unfolding encodedWord
+  encoded-length = length-append parities info ∙ omega (arith, parities-length)
 
-  pub frame-front : (n : ℕ) → n < rows * lift → getD (frame plan rows cols lift third info) n 0 ≡ parityBit plan rows cols lift third (dataBit rows lift info) (n / lift) (n % lift)
-  unfolding frame
-  frame-front n h = List·getD-append parities info 0 n (omega (arith, parities-length)) ∙ getD-map-below 0 parityAt (rows * lift) n h
+  pub encoded-front : (n : ℕ) → n < rows * lift → getD (encodedWord plan rows cols lift third info) n 0 ≡ parityBit plan rows cols lift third (dataBit rows lift info) (n / lift) (n % lift)
+  unfolding encodedWord
+  encoded-front n h = List·getD-append parities info 0 n (omega (arith, parities-length)) ∙ getD-map-below 0 parityAt (rows * lift) n h
 
-  pub frame-column : (k z : ℕ) → k < rows → z < lift → column lift (frame plan rows cols lift third info) k z ≡ parityBit plan rows cols lift third (dataBit rows lift info) k z
-  frame-column k z h l =
-      frame-front (k * lift + z) (number-low k z rows lift h l)
+  pub encoded-column : (k z : ℕ) → k < rows → z < lift → column lift (encodedWord plan rows cols lift third info) k z ≡ parityBit plan rows cols lift third (dataBit rows lift info) k z
+  encoded-column k z h l =
+      encoded-front (k * lift + z) (number-low k z rows lift h l)
       ∙ ap₂ parityOf (block-of lift some-lift k z l) (place-of lift some-lift k z l)
 
-  pub frame-carries : Carries (rows * lift) info (frame plan rows cols lift third info)
-  unfolding frame
-  frame-carries =
+  pub encoded-carries : Carries (rows * lift) info (encodedWord plan rows cols lift third info)
+  unfolding encodedWord
+  encoded-carries =
       record { carried = λ d h. ap (λ (n : ℕ). getD (parities ++ info) (n + d) 0) (sym parities-length) ∙ getD-append-add parities info d 0 }
 
-  -- THE FRAME is the only word of its length with these data bits and parity bits
-  pub frame-is : (v : List ℕ) → length v ≡ rows * lift + length info → Carries (rows * lift) info v
+  -- IT IS the only word of its length with these data bits and parity bits
+  pub encoded-is : (v : List ℕ) → length v ≡ rows * lift + length info → Carries (rows * lift) info v
       → ((k z : ℕ) → k < rows → z < lift → column lift v k z ≡ parityBit plan rows cols lift third (dataBit rows lift info) k z)
-      → v ≡ frame plan rows cols lift third info
-  frame-is v long carries solved =
-      let F : List ℕ = frame plan rows cols lift third info in
-      ext-getD 0 v F (long ∙ sym frame-length) λ n h.
+      → v ≡ encodedWord plan rows cols lift third info
+  encoded-is v long carries solved =
+      let F : List ℕ = encodedWord plan rows cols lift third info in
+      ext-getD 0 v F (long ∙ sym encoded-length) λ n h.
       by-le (rows * lift) n
-      (λ l. carried-byte (rows * lift) info v long carries n l ∙ sym (carried-byte (rows * lift) info F frame-length frame-carries n l))
+      (λ l. carried-byte (rows * lift) info v long carries n l ∙ sym (carried-byte (rows * lift) info F encoded-length encoded-carries n l))
       (λ l.
       ap (λ (x : ℕ). getD v x 0) (sym (div-add-mod' n lift))
       ∙ solved (n / lift) (n % lift) (block-low lift some-lift n rows l) (mod-lt n some-lift)
-      ∙ sym (frame-front n l))
+      ∙ sym (encoded-front n l))

@@ -1,13 +1,13 @@
--- `encoding::frame::write` meets its contract: data bits behind zeros, the sums of the rows, the columns before m − 1. Assumes nothing.
+-- `encoding::parity::write` meets its contract: data bits behind zeros, the sums of the rows, the columns before m − 1. Assumes nothing.
 use Prim.Native.Nat.{_+_, _*_, _≤_}
 use mathlib.Core.Path.{_≡_}
 use native.Mathlib.Omega.{arith}
 use borrow.Author.Needs.{needs}
 use lib.ListN.{length}
-use Rattle.encoding.proofs.Frames.{parts}
-use Rattle.encoding.proofs.Written.{laid, frame-written}
-use Rattle.encoding.proofs.frame.write.Statement.{statement}
-use Rattle.encoding.proofs.frame.write.Tie as tie
+use Rattle.encoding.proofs.Words.{parts}
+use Rattle.encoding.proofs.Written.{laid, encoded-written}
+use Rattle.encoding.proofs.parity.write.Statement.{statement}
+use Rattle.encoding.proofs.parity.write.Tie as tie
 
 -- parity bits and data bits are the whole word
 room : (s : tie.Start) → let a = s .args in a .shape .rows * a .shape .lift + length (a .info .now) ≡ length (a .word .now)
@@ -54,7 +54,7 @@ returns c =
     let r = f .before .before .before .before in
     let d = copied r in
     let k = cleared d in
-    frame-written (start k .pre .0) (k .clear .ensures) (d .copy .ensures) (f .settle-front .ensures .settled _ _ (r .sum-rows .ensures))
+    encoded-written (start k .pre .0) (k .clear .ensures) (d .copy .ensures) (f .settle-front .ensures .settled _ _ (r .sum-rows .ensures))
 
 pub write-spec : {M : Type 1} → statement M
 write-spec =

@@ -1,4 +1,4 @@
--- The frame of given data bits (document 02, slip 10), for a plan of the bi-diagonal shape with m rows: m columns of parity bits, and behind
+-- The encoded word: the frame of given data bits (document 02, slip 10), for a plan of the bi-diagonal shape with m rows: m columns of parity bits, and behind
 -- them the data bits, in the order of their bit numbers.
 use Prim.Native.Nat.{ℕ, _+_, _-_, _*_, _/_, _%_, _<_}
 use mathlib.Core.Path.{_≡_}
@@ -42,8 +42,8 @@ abbrev pub dataBit : ℕ → ℕ → List ℕ → ℕ → ℕ → ℕ
 dataBit rows lift info j z = getD info ((j - rows) * lift + z) 0
 
 -- parity bits, then data bits
-unfoldable pub frame : List ℤ → ℕ → ℕ → ℕ → ℕ → List ℕ → List ℕ
-frame plan rows cols lift third info =
+unfoldable pub encodedWord : List ℤ → ℕ → ℕ → ℕ → ℕ → List ℕ → List ℕ
+encodedWord plan rows cols lift third info =
     map (λ n. parityBit plan rows cols lift third (dataBit rows lift info) (n / lift) (n % lift)) (below (rows * lift)) ++ info
 
 -- a word has the data bits behind its parity bits, in the order of their numbers

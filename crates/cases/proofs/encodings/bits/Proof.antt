@@ -1,9 +1,9 @@
--- `cases::frames::bits` is safe. The loop needs no invariant; its measure is how many bytes are left. Assumes nothing.
+-- `cases::encodings::bits` is safe. The loop needs no invariant; its measure is how many bytes are left. Assumes nothing.
 use Prim.Native.Nat.{_-_}
 use lib.ListN.{length}
 use borrow.Author.Needs.{needs}
-use Rattle.cases.proofs.frames.bits.Statement.{statement}
-use Rattle.cases.proofs.frames.bits.Tie as tie
+use Rattle.cases.proofs.encodings.bits.Statement.{statement}
+use Rattle.cases.proofs.encodings.bits.Tie as tie
 
 abbrev Inv-loop : tie.InvT-loop
 Inv-loop list k₀ t3 k-end k = Unit {0}
