@@ -24,6 +24,17 @@
 //! assert_eq!(fill(&plan, &mut dirty), Err(Refusal { number: 18, values: vec![8] }));
 //! ```
 //!
+//! Where a plan so passes, fewer lost and wrong bits together than one more than the lost bits allowed are never taken for
+//! another codeword (README.md, "A scratched frame"). Here that is up to three:
+//!
+//! ```
+//! # use qcldpc::{fill, syndrome, Plan, Refusal, Syndrome};
+//! # let plan = Plan { entries: &[0, 0, 0, 0, 1, 2, 0, 2, 1], rows: 3, cols: 3, lift: 3 };
+//! assert_eq!(syndrome(&plan, &[1, 1, 1, 0, 0, 0, 1, 1, 0]), Ok(Syndrome::Odd(2))); // bit 8 is wrong
+//! let mut word = [2, 1, 1, 2, 0, 0, 1, 1, 0]; // and bits 0 and 3 are lost
+//! assert_eq!(fill(&plan, &mut word), Err(Refusal { number: 20, values: vec![] }));
+//! ```
+//!
 //! By a plan of the bi-diagonal shape [`encode`] makes the codeword of given data bits.
 //!
 //! Beside a plan lie its weights, two lists: how many filled blocks each row has, and how many each column has. The calls that

@@ -2,7 +2,7 @@
 use Prim.Native.Nat.{ℕ, zero, suc, _+_, _≤_, _<_}
 use mathlib.Core.Path.{_≡_, refl, sym, ap, ap₂, subst, _∙_}
 use mathlib.Core.Logic.{inl, inr, _≢_}
-use mathlib.Core.Bool.{Bool, true, false, not, _&&_, and-true}
+use mathlib.Core.Bool.{Bool, true, false, not, _&&_, _||_, and-true}
 use mathlib.Core.List.{List, [], _∷_, _++_, map}
 use native.Mathlib.Omega.{arith}
 use native.Mathlib.Nat.{zero-add, add-zero}
@@ -138,6 +138,12 @@ count-append f (x ∷ p) q = omega (arith, count-append f p q)
 pub count-last : (f : ℕ → Bool) (n : ℕ) → count f (below (n + 1)) ≡ count f (below n) + one (f n)
 unfolding count
 count-last f n = ap (count f) (below-last n) ∙ omega (arith, count-append f (below n) (n ∷ []))
+
+-- members that pass one of two tests
+pub count-or : (f g : ℕ → Bool) (l : List ℕ) → count (λ x. f x || g x) l ≤ count f l + count g l
+unfolding count
+count-or f g [] = omega arith
+count-or f g (x ∷ l) = by-bool (f x) (λ e. rw e (omega (arith, count-or f g l))) (λ e. rw e (omega (arith, count-or f g l)))
 
 -- a member that passes, and back
 pub count-mem : (f : ℕ → Bool) (x : ℕ) (l : List ℕ) → Mem x l → f x ≡ true → 1 ≤ count f l

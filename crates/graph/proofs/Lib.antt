@@ -13,5 +13,6 @@ pub mod Peeling
 pub mod Filling
 pub mod Images
 pub mod Recovery
+pub mod Errors
 pub mod Ends
 pub mod Sums

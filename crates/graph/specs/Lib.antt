@@ -5,3 +5,4 @@ pub mod Girth
 pub mod Stopping
 pub mod Erasure
 pub mod Filling
+pub mod Errors

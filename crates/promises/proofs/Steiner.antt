@@ -24,7 +24,7 @@ use Rattle.promises.specs.Steiner.{SteinerPlan, SteinerPlans, SteinerTri
 use Rattle.promises.proofs.Two.{verdict}
 use Rattle.promises.proofs.Three.{recovered}
 
-steiner-plan : (order lift : ℕ) (voltages : List ℤ) (room : Room) → lowest (buildRules order lift voltages room) ≡ none
+pub steiner-plan : (order lift : ℕ) (voltages : List ℤ) (room : Room) → lowest (buildRules order lift voltages room) ≡ none
     → SteinerPlan order lift voltages (steinerPlan order lift voltages) order (system.cols order)
 unfolding allowed member
 steiner-plan order lift voltages room e =

@@ -25,7 +25,7 @@ use Rattle.promises.specs.Three.{Bound, at-6, at-8, at-10, at-12, at-14,
 use Rattle.promises.proofs.Two.{verdict}
 
 -- the bound is one less than the least stopping set
-least : {target bound : ℕ} → Bound target bound → Least target (suc bound)
+pub least : {target bound : ℕ} → Bound target bound → Least target (suc bound)
 least at-6 = girth-6
 least at-8 = girth-8
 least at-10 = girth-10
@@ -36,7 +36,7 @@ least at-18 = girth-18
 
 -- a codeword has the plan's length, and no byte of it is above 1, so none of a damaged one above 2
 module _ (plan : List ℤ) (rows cols lift : ℕ) (f : List ℕ) (code : Codeword (tanner plan rows cols lift) f) where
-  whole : length f ≡ cols * lift
+  pub whole : length f ≡ cols * lift
   unfolding tanner
   whole = code .same-length
 

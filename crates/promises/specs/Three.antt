@@ -1,5 +1,5 @@
 -- Promise 3 (demand 3 of the requirement): where the girth test passes and every column has three filled blocks, a few lost bits always come back.
-use Prim.Native.Nat.{ℕ, _≤_}
+use Prim.Native.Nat.{ℕ, suc, _≤_}
 use mathlib.Core.Path.{_≡_}
 use mathlib.Core.Logic.{_↔_}
 use mathlib.Core.Bool.{false}
@@ -29,6 +29,10 @@ pub data Bound : ℕ → ℕ → Type 0 where
   at-14 : Bound 14 21
   at-16 : Bound 16 29
   at-18 : Bound 18 45
+
+-- T of document 02, slip 11: one more than the lost bits allowed
+abbrev pub T : ℕ → ℕ
+T bound = suc bound
 
 -- f′ is f with at most n of its bytes replaced by 2
 pub record Loses (f f′ : List ℕ) (n : ℕ) : Type 0 where

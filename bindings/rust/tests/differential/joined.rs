@@ -3,7 +3,7 @@ use crate::door::{agree, Short};
 use crate::inputs::Draft;
 use crate::join::{compare, gcd, pair_of, Met, Pair};
 use crate::judged::{likely_plan, TARGETS};
-use crate::promise::repeated;
+use crate::passing::repeated;
 use crate::random::Random;
 use crate::reference;
 use crate::reference::graph::graph;

@@ -9,6 +9,7 @@ mod encode;
 mod encode_faults;
 mod encode_shapes;
 mod encoded;
+mod errors;
 mod fill;
 mod girth;
 mod inputs;
@@ -19,6 +20,7 @@ mod judged;
 mod lent;
 mod owned;
 mod pairs;
+mod passing;
 mod plans;
 mod promise;
 mod random;
@@ -48,6 +50,7 @@ static FILL: LazyLock<Seen> = LazyLock::new(fill::compare_all);
 static COUNT: LazyLock<Seen> = LazyLock::new(count::compare_all);
 static ALIST: LazyLock<Seen> = LazyLock::new(alist::compare_all);
 static PROMISE: LazyLock<Seen> = LazyLock::new(promise::compare_all);
+static ERRORS: LazyLock<Seen> = LazyLock::new(errors::compare_all);
 
 #[test]
 fn plan_check() {
@@ -124,6 +127,12 @@ fn promise_3() {
     assert!(PROMISE.met().is_empty());
 }
 
+#[test]
+fn lost_and_wrong_bits() {
+    println!("lost and wrong bits: {}", *ERRORS);
+    assert_eq!(ERRORS.met(), [20]);
+}
+
 // The subjects above are run once each, whichever test asks first.
 #[test]
 fn every_refusal_was_met() {
@@ -138,7 +147,7 @@ fn every_refusal_was_met() {
 #[test]
 fn printed_voltages_were_met() {
     let plans = [&PLANS, &GIRTH, &PAIRS, &CHANGES, &JOIN, &ENCODE, &WORDS, &FILL, &ALIST].map(|seen| (seen, 10000));
-    for (seen, least) in plans.into_iter().chain([(&STEINER, 1000), (&PROMISE, 500)]) {
+    for (seen, least) in plans.into_iter().chain([(&STEINER, 1000), (&PROMISE, 500), (&ERRORS, 500)]) {
         assert!(seen.printed > least, "only {} results with a voltage at or above the lift", seen.printed);
     }
 }

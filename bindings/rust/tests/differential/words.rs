@@ -10,8 +10,8 @@ use crate::tables::built_plans;
 use qcldpc::raw::qcldpc_syndrome;
 use qcldpc::{Plan, Syndrome};
 
-// Gives the answer, where it is no refusal.
-fn compare(plan: &Plan, word: &[u8], seen: &mut Seen) -> Option<Syndrome> {
+/// Gives the answer, where it is no refusal.
+pub fn compare(plan: &Plan, word: &[u8], seen: &mut Seen) -> Option<Syndrome> {
     let wanted = reference::word::syndrome(plan, word);
     let input = &(Short(plan), word);
     let (rows, cols, lift) = (plan.rows as u64, plan.cols as u64, plan.lift as u64);
