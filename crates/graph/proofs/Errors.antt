@@ -17,7 +17,7 @@ use Rattle.graph.specs.Filling.{filledWord, clash, erasures}
 use Rattle.graph.specs.Errors.{differs, wrong, errors}
 use Rattle.graph.proofs.Decide.{both-ways, by-bool}
 use Rattle.graph.proofs.Count.{count-mono, count-none, count-or}
-use Rattle.graph.proofs.Neighbours.{bit-joined, mem-below}
+use Rattle.graph.proofs.Neighbours.{bit-joined}
 use Rattle.graph.proofs.Tree.{stopping-least}
 use Rattle.graph.proofs.Peeling.{erasures-count}
 use Rattle.graph.proofs.Filling.{filledWord-solves}
@@ -87,15 +87,10 @@ module _ (G : Bipartite) {t n : ℕ} (least : Least t n) (passes : Passes G t) (
   pub no-error : errors u r ≡ 0 → erasures r + errors v r < n → errors v r ≡ 0
   no-error fits few = ap (λ (x : List ℕ). errors x r) (sym (at-most-one (omega arith))) ∙ fits
 
--- a word fits itself without an error, and a codeword has no erasure
+-- a word fits itself without an error
 pub errors-self : (w : List ℕ) → errors w w ≡ 0
 unfolding errors
 errors-self w = count-none (wrong w w) (below (length w)) (λ b m. rw (eq-eqb (getD w b 0) (getD w b 0) refl) (and-false (not (erased w b))))
-
-pub codeword-whole : (G : Bipartite) (w : List ℕ) → Codeword G w → erasures w ≡ 0
-codeword-whole G w code =
-    erasures-count w
-    ∙ count-none (erased w) (below (length w)) (λ b m. ne-eqb (getD w b 0) 2 λ e. omega (arith, code .known b (omega (arith, mem-below b (length w) m, code .same-length))))
 
 -- a solution without an erasure left is a codeword, and fits without an error
 module _ (G : Bipartite) (w p : List ℕ) (len : length w ≡ G .bits) (bytes : (b : ℕ) → getD w b 0 ≤ 2) (sol : Solution G w p) (all : (b : ℕ) → largest G w b ≡ false) where

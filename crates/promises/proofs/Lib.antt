@@ -28,3 +28,4 @@ pub mod Pairs
 pub mod Joins
 pub mod Encodes
 pub mod Errors
+pub mod Fano
