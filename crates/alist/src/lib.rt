@@ -1,4 +1,6 @@
 // The alist text of a plan (document 01, "alist text"): a writer into a lent place, and a comparer of a lent text.
+#![tactic(auto)]
+
 ghost use Rattle.std.specs.Prelude.{◌≡◌, length};
 ghost use Rattle.refusal.specs.Lowest.{lowest};
 ghost use Rattle.exponent.specs.Limits.{WellFormed};
@@ -15,14 +17,14 @@ use exponent::{Shape, Validity};
 use refusal::Refusal;
 
 // The length of the text written, or why there is none.
-#[derive(Drop)]
+#[derive(Clone, Copy)]
 pub enum Written {
     Written(usize),
     Refused(Refusal),
 }
 
 // Whether a text is the alist of a plan, or why not.
-#[derive(Drop)]
+#[derive(Clone, Copy)]
 pub enum Comparison {
     Agrees,
     Refused(Refusal),

@@ -8,7 +8,7 @@ use exponent::block::Block;
 use exponent::{Shape, block};
 
 // How many shifts were met, and the last three.
-#[derive(Drop)]
+#[derive(Clone, Copy)]
 pub struct Three {
     pub count: usize,
     pub a: usize,

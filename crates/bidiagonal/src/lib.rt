@@ -1,4 +1,6 @@
 // The bi-diagonal shape of a plan (document 02, slip 10; source 003, formula (5)), by which data are encoded without elimination.
+#![tactic(auto)]
+
 ghost use Rattle.exponent.specs.Limits.{WellFormed};
 ghost use Rattle.bidiagonal.specs.Work.{Judged};
 
@@ -8,7 +10,7 @@ mod front; // front.rt: the columns before m − 1, which hold the two diagonals
 mod last; // last.rt: column m − 1, and the third of its shifts
 
 // The third shift of column m − 1, where the plan has the shape.
-#[derive(Drop)]
+#[derive(Clone, Copy)]
 pub enum Third {
     Nothing,
     Shift(usize),

@@ -1,5 +1,7 @@
 // The test program: runs the bench cases of document 01 that are not proved as a table, and the sources' parameters,
 // and writes a line for each answer, to be compared with the stored output.
+#![tactic(auto)]
+
 mod changes; // changes.rt: one block changed
 mod encodings; // encodings.rt: codewords of data bits
 mod flips; // flips.rt: rounds of bit flipping

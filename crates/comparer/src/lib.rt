@@ -1,4 +1,6 @@
 // The comparer of alist text: a lent text, token by token, against the lines of a plan in their two forms.
+#![tactic(auto)]
+
 ghost use Rattle.std.specs.Prelude.{◌≡◌, ◌++◌, map, ◌≤◌, max, length};
 ghost use Rattle.exponent.specs.Limits.{WellFormed};
 ghost use Rattle.exponent.specs.Tanner.{graph_of};
@@ -18,7 +20,7 @@ use weights::Side;
 mod reader; // reader.rt: a lent text, and how far reading has come in it
 
 // The text is the alist; or it differs first at this place.
-#[derive(Drop)]
+#[derive(Clone, Copy)]
 pub enum Verdict {
     Same,
     Differs(usize),

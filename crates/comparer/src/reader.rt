@@ -14,7 +14,7 @@ use tokens::{Cursor, Form, Step};
 
 // A lent text, and how far reading has come in it: behind the number last read, or to a wrong token
 // (document 01: "reading goes on in the lent text from the number last read").
-#[derive(Drop)]
+#[derive(Clone, Copy)]
 pub struct Reader<'a> {
     pub text: &'a [u8],
     pub step: Step,

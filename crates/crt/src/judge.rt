@@ -13,7 +13,7 @@ use exponent::{Shape, Validity, block};
 use refusal::{Refusal, numbers};
 
 // The unit of the two lifts, or a refusal.
-#[derive(Drop)]
+#[derive(Clone, Copy)]
 pub enum Verdict {
     Accepted(usize),
     Refused(Refusal),

@@ -1,4 +1,6 @@
 // Two plans made one (document 02, slip 9; source 004, [6]: the combining of quasi-cyclic codes by the Chinese remainder theorem).
+#![tactic(auto)]
+
 ghost use Rattle.std.specs.Prelude.{◌≡◌, ◌*◌, length};
 ghost use Rattle.crt.specs.Join.{sized, join_refusal, after_join, joining};
 
@@ -11,7 +13,7 @@ use judge::Verdict;
 use refusal::Refusal;
 
 // What the call answers: the lift of the joined plan, or a refusal.
-#[derive(Drop)]
+#[derive(Clone, Copy)]
 pub enum Joining {
     Joined(usize),
     Refused(Refusal),

@@ -1,4 +1,6 @@
 // Numbers in decimal (document 01, "alist text"), written into a lent text where there is room.
+#![tactic(auto)]
+
 ghost use Rattle.std.specs.Prelude.{◌≡◌, [], ◌∷◌, ◌+◌, ◌/◌, ◌%◌, ◌<◌, ◌^◌, length};
 ghost use Rattle.writing.specs.Wrote.{Wrote};
 ghost use Rattle.decimal.specs.Decimal.{digit, decimal};

@@ -1,4 +1,6 @@
 // The encoder (document 02, slip 10): the codeword (code frame) of given data bits, for plans of the bi-diagonal shape.
+#![tactic(auto)]
+
 ghost use Rattle.std.specs.Prelude.{◌≡◌, max, length};
 ghost use Rattle.refusal.specs.Lowest.{lowest};
 ghost use Rattle.refusal.specs.Lent.{lent};
@@ -14,7 +16,7 @@ use exponent::{Shape, Validity};
 use refusal::Refusal;
 
 // What the call answers: the codeword stands in the lent word, or a refusal.
-#[derive(Drop)]
+#[derive(Clone, Copy)]
 pub enum Encoding {
     Encoded,
     Refused(Refusal),

@@ -2,7 +2,7 @@ ghost use Rattle.std.specs.Prelude.{◌≡◌, ◌+◌, ◌*◌, ◌%◌, ◌<�
 ghost use Rattle.exponent.specs.Plan.{entry_at, block_at, is_invalid, filled, shift_of};
 
 // A block of the matrix: the zero block (document 01: empty), the identity shifted right (filled), or an entry that is neither.
-#[derive(Drop)]
+#[derive(Clone, Copy)]
 pub enum Block {
     Zero,
     Shift(usize),

@@ -1,4 +1,6 @@
 // The exponent matrix (document 01: plan) of a quasi-cyclic code: its limits, its blocks, and a walk's position in its graph.
+#![tactic(auto)]
+
 ghost use Rattle.std.specs.Prelude.{◌≡◌};
 ghost use Rattle.refusal.specs.Lowest.{lowest};
 ghost use Rattle.exponent.specs.Limits.{plan_rules, validity};
@@ -10,7 +12,7 @@ pub mod position; // position.rt: a walk's position, and its two steps
 use refusal::Refusal;
 
 // The sizes of a plan.
-#[derive(Drop)]
+#[derive(Clone, Copy)]
 pub struct Shape {
     pub rows: usize,
     pub cols: usize,
@@ -18,7 +20,7 @@ pub struct Shape {
 }
 
 // Whether a plan may be used.
-#[derive(Drop)]
+#[derive(Clone, Copy)]
 pub enum Validity {
     Valid,
     Refused(Refusal),

@@ -1,4 +1,6 @@
 // One round of bit flipping (document 02, slip 12: turning bits), by Gallager's hard rule.
+#![tactic(auto)]
+
 ghost use Rattle.std.specs.Prelude.{◌≡◌};
 ghost use Rattle.exponent.specs.Limits.{WellFormed};
 ghost use Rattle.exponent.specs.Tanner.{graph_of};
@@ -13,7 +15,7 @@ use refusal::Refusal;
 use weights::Side;
 
 // The answer: how many bits were turned, or a refusal.
-#[derive(Drop)]
+#[derive(Clone, Copy)]
 pub enum Flipping {
     Flipped(usize),
     Refused(Refusal),

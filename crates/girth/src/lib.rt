@@ -1,4 +1,6 @@
 // The girth test (document 01: girth verdict): whether a plan's Tanner graph has no simple cycle shorter than a target.
+#![tactic(auto)]
+
 ghost use Rattle.std.specs.Prelude.{◌≡◌, ◌+◌, ◌-◌, ◌/◌, ◌≤◌};
 ghost use Rattle.exponent.specs.Limits.{WellFormed};
 ghost use Rattle.walks.specs.Steps.{blocks_of};
@@ -12,7 +14,7 @@ use exponent::{Shape, Validity};
 use refusal::Refusal;
 use walks::trail::PLACES;
 
-#[derive(Drop)]
+#[derive(Clone, Copy)]
 pub enum Outcome {
     Passed,
     Failed,
@@ -20,7 +22,7 @@ pub enum Outcome {
 }
 
 // The answer: where it is Failed, a shortest cycle, of n checks and n bits; all 0 otherwise and in the places not used.
-#[derive(Drop)]
+#[derive(Clone, Copy)]
 pub struct GirthTest {
     pub outcome: Outcome,
     pub n: usize,

@@ -1,7 +1,7 @@
 -- Walks that never step back in the graph of checks and bits, and the cycle in a walk that meets itself: the core lemma and divergence.
 -- Assumes nothing.
 use Prim.Native.Nat.{ℕ, suc, ◌+◌, ◌≤◌}
-use mathlib.Core.Path.{◌≡◌, refl, sym, ap, ap₂}
+use mathlib.Core.Path.{◌≡◌, refl, sym, subst, ap, ap₂}
 use mathlib.Core.Logic.{inr, ◌≢◌}
 use mathlib.Core.List.{List, [], ◌∷◌, ◌++◌, reverse_aux, append_assoc}
 use native.Mathlib.Omega.{arith}
@@ -150,7 +150,7 @@ module _ (G : Bipartite) where
 
   -- two walks that part at s and end at the same vertex
   pub fork : (s : Node) (l : List Node) (y : Node) (m : List Node) (n : ℕ) → Walk G (s ∷ l) → Walk G (s ∷ y ∷ m) → Fork l (y ∷ m) → last s l ≡ last y m → length l + length (y ∷ m) ≤ n → Cycle G n
-  fork s l y m n wl wm f e h = core_cycle (reverse_aux l (s ∷ y ∷ m)) n (turn s l (y ∷ m) wl wm f) (twice s l (y ∷ m) (rw e (last_mem y m))) (rw length-reverse_aux (omega arith))
+  fork s l y m n wl wm f e h = core_cycle (reverse_aux l (s ∷ y ∷ m)) n (turn s l (y ∷ m) wl wm f) (twice s l (y ∷ m) (subst (λ (x : Node). Mem x (y ∷ m)) (sym e) (last_mem y m))) (rw length-reverse_aux (omega arith))
 
   -- THE DIVERGENCE LEMMA: two different non-backtracking walks with the same ends
   pub diverge : (s : Node) (l m : List Node) → Walk G (s ∷ l) → Walk G (s ∷ m) → last s l ≡ last s m → l ≢ m → Cycle G (length l + length m)

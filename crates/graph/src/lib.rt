@@ -1,1 +1,2 @@
 // Theory only: definitions are in specs/, their laws in proofs/.
+#![tactic(auto)]

@@ -1,4 +1,6 @@
 // The plan of a table and a mask (document 01, "Table plans"; source document 004): its rows, its columns, and the entry at both.
+#![tactic(auto)]
+
 ghost use Rattle.std.specs.Prelude.{◌≡◌, ◌<◌, ◌≤◌, eqb};
 ghost use Rattle.square.specs.Table.{table_at};
 ghost use Rattle.square.specs.Inner.{Square};
@@ -8,7 +10,7 @@ ghost use Rattle.grid.specs.Inner.{Within, column, keeps};
 use square::{search, signed};
 
 // The three parts of the rows: pairs (a, j), pairs (a, r), pairs (j, r).
-#[derive(Drop)]
+#[derive(Clone, Copy)]
 pub enum Part {
     AJ,
     AR,
@@ -16,7 +18,7 @@ pub enum Part {
 }
 
 // A row: its part, and its pair.
-#[derive(Drop)]
+#[derive(Clone, Copy)]
 pub struct Row {
     pub part: Part,
     pub one: usize,
@@ -24,7 +26,7 @@ pub struct Row {
 }
 
 // A column is a triple.
-#[derive(Drop)]
+#[derive(Clone, Copy)]
 pub struct Column {
     pub a: usize,
     pub j: usize,

@@ -1,4 +1,6 @@
 // Two index lists over a plan, kept on the stack: the next filled block of a column and of a row. They make work faster.
+#![tactic(auto)]
+
 ghost use Rattle.std.specs.Prelude.{◌≡◌, cond, ◌+◌, ◌*◌, ◌<◌, ◌≤◌, length, get_or};
 ghost use Rattle.exponent.specs.Limits.{WellFormed};
 ghost use Rattle.index.specs.Index.{filled_at, named, DownNext, AlongNext, IndexedFrom, Room, AtRow, DownIndex, AlongIndex, under};

@@ -9,7 +9,7 @@ use tokens::Form;
 use weights::Side;
 
 // A number of a line, and the block that the line goes on from.
-#[derive(Drop)]
+#[derive(Clone, Copy)]
 pub struct Number {
     pub value: usize,
     pub next: usize,

@@ -1,4 +1,6 @@
 // The numbers of the alist in its two forms, line by line (document 01, "alist text"): here the lines in their order.
+#![tactic(auto)]
+
 ghost use Rattle.std.specs.Prelude.{◌≡◌, ◌+◌, ◌<◌, get_or};
 ghost use Rattle.lines.specs.Alist.{greatest};
 ghost use Rattle.lines.specs.Sides.{Small, node_count};
@@ -12,7 +14,7 @@ use tokens::Form;
 use weights::Side;
 
 // The sizes of a plan, and the greatest degree of a bit and of a check.
-#[derive(Drop)]
+#[derive(Clone, Copy)]
 pub struct Layout {
     pub shape: Shape,
     pub bits: usize,
@@ -20,7 +22,7 @@ pub struct Layout {
 }
 
 // A line of the alist: the degrees of a side, or the neighbours of a node, among others.
-#[derive(Drop)]
+#[derive(Clone, Copy)]
 pub enum Line {
     Sizes,
     Greatest,

@@ -1,5 +1,7 @@
 // The peeling decoder (document 01: filler): fills erasures of a word by the parity checks of a plan. And its preview (document 02,
 // slip 5).
+#![tactic(auto)]
+
 ghost use Rattle.std.specs.Prelude.{◌≡◌, length};
 ghost use Rattle.exponent.specs.Tanner.{graph_of};
 ghost use Rattle.peeling.specs.Fill.{Fillable, filling, filled_or, Fills, Previews};
@@ -13,7 +15,7 @@ use worklist::marks;
 const BITS: usize = 65536;
 
 // The answer: how many of the word's erasures were filled, or would be, and how many are left.
-#[derive(Drop)]
+#[derive(Clone, Copy)]
 pub enum Filling {
     Filled { filled: usize, left: usize },
     Refused(Refusal),

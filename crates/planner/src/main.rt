@@ -1,5 +1,7 @@
 // The program of document 01: reads J and P from standard input, and prints the alist of the cyclic plan or the line of a refusal.
 // What it prints is the contract of `planning::plan_text`.
+#![tactic(auto)]
+
 use libc::{STDIN_FILENO, STDOUT_FILENO};
 
 fn main() {

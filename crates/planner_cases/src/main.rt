@@ -1,5 +1,7 @@
 // The test program of the planner: what is printed for each input, as its first line and its length, to be compared with the
 // stored output.
+#![tactic(auto)]
+
 ghost use Rattle.std.specs.Prelude.{◌≤◌, length};
 
 use libc::STDOUT_FILENO;

@@ -1,4 +1,6 @@
 // The program's work (document 01, "alist text"): from the bytes that it reads to the bytes that it prints.
+#![tactic(auto)]
+
 ghost use Rattle.std.specs.Prelude.{◌≡◌, min, length};
 ghost use Rattle.std.proofs.lemmas.List.Edits.{sets};
 ghost use Rattle.planning.specs.Output.{output, output_for, plan_after, cyclic_rules, cyclic_plan};

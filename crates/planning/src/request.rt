@@ -5,7 +5,7 @@ use crate::number;
 use tokens::Form;
 
 // What is asked for: the order J and the lift P.
-#[derive(Drop)]
+#[derive(Clone, Copy)]
 pub struct Request {
     pub order: usize,
     pub lift: usize,

@@ -1,5 +1,7 @@
 // The C interface of the library, for Rust and C: `rt staticlib qcldpc`.
 // Each function returns 0, or the number of a refusal (documents 01 and 02), and puts values into `out` (specs/Door.antt).
+#![tactic(auto)]
+
 ghost use Rattle.std.specs.Prelude.{◌≡◌, ℕ, ◌*◌, length};
 ghost use Rattle.refusal.specs.Lowest.{lowest};
 ghost use Rattle.graph.specs.Filling.{erasures};

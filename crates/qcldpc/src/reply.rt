@@ -16,7 +16,7 @@ use treetest::Verdict;
 use weights::change::Changed;
 
 // What an answer comes to: a refusal; or no number, one or two for the first places of `out`.
-#[derive(Drop)]
+#[derive(Clone, Copy)]
 pub enum Reply {
     Refused(Refusal),
     Nothing,

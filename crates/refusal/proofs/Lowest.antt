@@ -21,12 +21,12 @@ both true b e = (refl, e)
 both false b e = absurd (let z : ◌≡◌ {A = ℕ} 0 1 = cc in omega arith)
 
 -- the numbers of what is listed lie above n
-above : (n : ℕ) (rules : List Rule) → rise_from n rules ≡ true → (rule : Rule) → In rule rules → n < number rule.refusal
-above n l e rule (here {rules = rules}) =
+above : (rule : Rule) (n : ℕ) (rules : List Rule) → rise_from n rules ≡ true → In rule rules → n < number rule.refusal
+above rule n l e (here {rules = rules}) =
     ltb-true n (number rule.refusal) (both (ltb n (number rule.refusal)) (rise_from (number rule.refusal) rules) e).0
-above n l e rule (later {other = other} {rules = rules} i) =
+above rule n l e (later {other = other} {rules = rules} i) =
     let (p, q) = both (ltb n (number other.refusal)) (rise_from (number other.refusal) rules) e in
-    omega (arith, ltb-true n (number other.refusal) p, above (number other.refusal) rules q rule i)
+    omega (arith, ltb-true n (number other.refusal) p, above rule (number other.refusal) rules q i)
 
 first : (test : Bool) (r s : Refusal) (rest : Option Refusal) → cond test (some r) rest ≡ some s → ((test ≡ true) × (r ≡ s)) ⊎ ((test ≡ false) × (rest ≡ some s))
 first true r s rest e = inl (refl, some_same r s e)
@@ -136,53 +136,53 @@ lowest_applies (rule ∷ rules) r e = step (first rule.applies rule.refusal r (l
     step (inr (p, q)) more = later (more q)
 
 -- where it gives nothing, nothing applies
-none_applies : (rules : List Rule) → lowest rules ≡ none → (r : Refusal) → In (refuse r true) rules → ⊥
+none_applies : (r : Refusal) (rules : List Rule) → lowest rules ≡ none → In (refuse r true) rules → ⊥
 unfolding lowest
-none_applies l e r (here {rules = rules}) = none-ne-some r (sym e)
-none_applies l e r (later {other = other} {rules = rules} i) =
-    none_applies rules (none_first other.applies other.refusal (lowest rules) e).1 r i
+none_applies r l e (here {rules = rules}) = none-ne-some r (sym e)
+none_applies r l e (later {other = other} {rules = rules} i) =
+    none_applies r rules (none_first other.applies other.refusal (lowest rules) e).1 i
 
 -- no listed refusal that applies has a lower number
-lowest_least : (n : ℕ) (rules : List Rule) → rise_from n rules ≡ true → (r : Refusal) → lowest rules ≡ some r
-    → (s : Refusal) → In (refuse s true) rules → number r ≤ number s
+lowest_least : (r s : Refusal) (n : ℕ) (rules : List Rule) → rise_from n rules ≡ true → lowest rules ≡ some r
+    → In (refuse s true) rules → number r ≤ number s
 unfolding lowest
-lowest_least n l e r h s (here {rules = rules}) = let q = some_same s r h in rw q (omega arith)
-lowest_least n l e r h s (later {other = other} {rules = rules} i) =
+lowest_least r s n l e h (here {rules = rules}) = let q = some_same s r h in rw q (omega arith)
+lowest_least r s n l e h (later {other = other} {rules = rules} i) =
     let (p, q) = both (ltb n (number other.refusal)) (rise_from (number other.refusal) rules) e in
-    step q (first other.applies other.refusal r (lowest rules) h) (λ k. lowest_least (number other.refusal) rules q r k s i)
+    step q (first other.applies other.refusal r (lowest rules) h) (λ k. lowest_least r s (number other.refusal) rules q k i)
   where
     step : rise_from (number other.refusal) rules ≡ true
         → ((other.applies ≡ true) × (other.refusal ≡ r)) ⊎ ((other.applies ≡ false) × (lowest rules ≡ some r))
         → (lowest rules ≡ some r → number r ≤ number s) → number r ≤ number s
-    step q (inl (a, b)) more = rw (← b) (omega (arith, above (number other.refusal) rules q (refuse s true) i))
+    step q (inl (a, b)) more = rw (← b) (omega (arith, above (refuse s true) (number other.refusal) rules q i))
     step q (inr (a, b)) more = more b
 
 -- what applies, and than which nothing lower applies, is what `lowest` gives
-lowest_found : (n : ℕ) (rules : List Rule) → rise_from n rules ≡ true → (r : Refusal) → In (refuse r true) rules
+lowest_found : (r : Refusal) (n : ℕ) (rules : List Rule) → rise_from n rules ≡ true → In (refuse r true) rules
     → ((s : Refusal) → In (refuse s true) rules → number r ≤ number s) → lowest rules ≡ some r
 unfolding lowest
-lowest_found n l e r (here {rules = rules}) least = refl
-lowest_found n l e r (later {other = other} {rules = rules} i) least =
+lowest_found r n l e (here {rules = rules}) least = refl
+lowest_found r n l e (later {other = other} {rules = rules} i) least =
     let q = (both (ltb n (number other.refusal)) (rise_from (number other.refusal) rules) e).1 in
-    step q other.applies refl (lowest_found (number other.refusal) rules q r i (λ s k. least s (later k)))
+    step q other.applies refl (lowest_found r (number other.refusal) rules q i (λ s k. least s (later k)))
   where
     step : rise_from (number other.refusal) rules ≡ true → (test : Bool) → other.applies ≡ test → lowest rules ≡ some r
         → cond test (some other.refusal) (lowest rules) ≡ some r
     step q true a more =
         let lower = least other.refusal (rw (is_rule other true other.refusal a refl) here) in
-        absurd (omega (arith, above (number other.refusal) rules q (refuse r true) i))
+        absurd (omega (arith, above (refuse r true) (number other.refusal) rules q i))
     step q false a more = more
 
 -- THE LAW: in a list whose numbers rise, `lowest` gives r exactly where r applies and none with a lower number does
 pub lowest_exactly : (rules : List Rule) → rising rules ≡ true → (r : Refusal) → (lowest rules ≡ some r) ↔ LowestThat rules r
 lowest_exactly rules e r = (
-  λ h. record { applies = lowest_applies rules r h; none_lower = lowest_least 0 rules e r h },
-  λ h. lowest_found 0 rules e r h.applies h.none_lower,
+  λ h. record { applies = lowest_applies rules r h; none_lower = λ s. lowest_least r s 0 rules e h },
+  λ h. lowest_found r 0 rules e h.applies h.none_lower,
 )
 
 -- and it gives nothing exactly where nothing applies
 pub lowest_none : (rules : List Rule) → (lowest rules ≡ none) ↔ ((r : Refusal) → In (refuse r true) rules → ⊥)
-lowest_none rules = (none_applies rules, λ h. step h (lowest rules) refl)
+lowest_none rules = (λ e r i. none_applies r rules e i, λ h. step h (lowest rules) refl)
   where
     step : ((r : Refusal) → In (refuse r true) rules → ⊥) → (o : Option Refusal) → lowest rules ≡ o → lowest rules ≡ none
     step h none e = e

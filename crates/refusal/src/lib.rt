@@ -1,8 +1,10 @@
+#![tactic(auto)]
+
 pub mod numbers; // numbers.rt: the number and the values of a refusal, as numbers
 
 // Why a call turns its caller away: one case for each number of documents 01 and 02, "Turned away", with the values it carries.
 // Places count from 0. `number` and `values` of specs/Number.antt give the document's number and values.
-#[derive(Drop)]
+#[derive(Clone, Copy)]
 pub enum Refusal {
     // 1 to 6: the plan designer.
     Rows,

@@ -4,7 +4,7 @@ ghost use Rattle.refusal.specs.Number.{number, values};
 use crate::Refusal;
 
 // The values of a refusal: the first `count` of four places.
-#[derive(Drop)]
+#[derive(Clone, Copy)]
 pub struct Values {
     pub count: usize,
     pub places: [usize; 4],

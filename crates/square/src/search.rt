@@ -6,7 +6,7 @@ ghost use Rattle.square.specs.Inner.{Square, quad};
 use crate::signed;
 
 // Two rows i, k of a table and two of its columns r, t.
-#[derive(Drop)]
+#[derive(Clone, Copy)]
 pub struct Quad {
     pub i: usize,
     pub k: usize,

@@ -2,7 +2,7 @@ ghost use Rattle.std.specs.Prelude.{◌≡◌, ◌<◌, pos, length, get_or};
 ghost use Rattle.square.specs.Table.{signed, is_negative, natural, block};
 
 // An entry of a table.
-#[derive(Drop)]
+#[derive(Clone, Copy)]
 pub enum Signed {
     Natural(usize),
     Negative,

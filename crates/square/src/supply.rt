@@ -4,7 +4,7 @@ ghost use Rattle.square.specs.Table.{half, supplied_at, supplied_table};
 use crate::signed;
 
 // The two constructions (004, section III).
-#[derive(Drop)]
+#[derive(Clone, Copy)]
 pub enum Family {
     Array,
     Cyclic,

@@ -1,4 +1,6 @@
 // Steiner triple plans (document 02, slips 6 and 7): rows are the points of a triple system, columns its triples.
+#![tactic(auto)]
+
 ghost use Rattle.std.specs.Prelude.{◌≡◌};
 ghost use Rattle.weights.specs.Weights.{held};
 ghost use Rattle.steiner.specs.Build.{build_refusal, after_build, built};

@@ -4,7 +4,7 @@ ghost use Rattle.steiner.specs.System.{is_order, cols, start, triple_at, place_i
 use crate::points;
 
 // Three points, rising.
-#[derive(Drop)]
+#[derive(Clone, Copy)]
 pub struct Triple {
     pub a: usize,
     pub b: usize,

@@ -10,7 +10,7 @@ use exponent::Validity;
 use refusal::Refusal;
 
 // A byte of a word (document 01: frame byte).
-#[derive(Drop)]
+#[derive(Clone, Copy)]
 pub enum Symbol {
     Known,
     Erased,

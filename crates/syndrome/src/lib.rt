@@ -1,4 +1,6 @@
 // The syndrome check of a word (document 01: frame check), and what it shares with the decoder: a word's bytes and a check's bits.
+#![tactic(auto)]
+
 ghost use Rattle.std.specs.Prelude.{◌≡◌, ◌*◌, length};
 ghost use Rattle.refusal.specs.Lowest.{lowest};
 ghost use Rattle.exponent.specs.Limits.{WellFormed, validity};
@@ -15,7 +17,7 @@ use exponent::{Shape, Validity};
 use refusal::Refusal;
 
 // The answer: every check is even, or the lowest odd one.
-#[derive(Drop)]
+#[derive(Clone, Copy)]
 pub enum Syndrome {
     Even,
     Odd(usize),

@@ -7,7 +7,7 @@ use exponent::block::Block;
 use exponent::{Shape, block, position};
 
 // What a scan of a check's bits found: how many are erasures, the sum of the bytes, and an erasure, if there is one.
-#[derive(Drop)]
+#[derive(Clone, Copy)]
 pub struct Scan {
     pub erased: usize,
     pub sum: usize,

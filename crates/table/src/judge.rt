@@ -9,7 +9,7 @@ use square::{mask, search};
 use weights::Room;
 
 // Whether a plan may be built, and the mask's common weight L; or why not.
-#[derive(Drop)]
+#[derive(Clone, Copy)]
 pub enum Verdict {
     Accepted(usize),
     Refused(Refusal),

@@ -1,4 +1,6 @@
 // Table plans: the exponent matrix (document 01: plan) that a table and a mask give, and the calls that supply a table.
+#![tactic(auto)]
+
 ghost use Rattle.std.specs.Prelude.{◌≡◌, length};
 ghost use Rattle.refusal.specs.Lowest.{lowest};
 ghost use Rattle.refusal.specs.Lent.{lent};
@@ -20,14 +22,14 @@ use weights::Room;
 use write::Size;
 
 // What a call that supplies a table answers.
-#[derive(Drop)]
+#[derive(Clone, Copy)]
 pub enum Supplied {
     Supplied,
     Refused(Refusal),
 }
 
 // What the builder answers: the plan's rows and columns, or a refusal.
-#[derive(Drop)]
+#[derive(Clone, Copy)]
 pub enum Built {
     Built { rows: usize, cols: usize },
     Refused(Refusal),

@@ -6,7 +6,7 @@ ghost use Rattle.table.specs.Write.{Ready, cell, cells, line, lines, plan_of};
 use grid::{Column, Part, Row};
 
 // The numbers J, L and P of a plan.
-#[derive(Drop)]
+#[derive(Clone, Copy)]
 pub struct Size {
     pub order: usize,
     pub weight: usize,

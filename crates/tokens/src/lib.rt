@@ -1,4 +1,6 @@
 // The tokens of a text (document 01, "alist text") in the two forms of an alist, held to numbers in decimal and to line ends.
+#![tactic(auto)]
+
 ghost use Rattle.std.specs.Prelude.{◌≡◌, ◌+◌, ◌≤◌, length};
 ghost use Rattle.decimal.specs.Decimal.{decimal};
 ghost use Rattle.tokens.specs.Tokens.{blank, between, start, token_at, same, numeral, line_end, ending};
@@ -6,20 +8,20 @@ ghost use Rattle.tokens.specs.Steps.{expect_at, expect_after, read_after};
 
 // The two forms of an alist (document 02, slip 1). Padded: short lists are filled up with 0, and a line feed is a blank.
 // Unpadded: a short list ends with its line, and each line feed is a token.
-#[derive(Drop)]
+#[derive(Clone, Copy)]
 pub enum Form {
     Padded,
     Unpadded,
 }
 
 // The place that reading has come to.
-#[derive(Drop)]
+#[derive(Clone, Copy)]
 pub struct Cursor {
     pub at: usize,
 }
 
 // The next token was right, and reading goes on behind it; or it is wrong or missing, at this place.
-#[derive(Drop)]
+#[derive(Clone, Copy)]
 pub enum Step {
     Next(Cursor),
     Wrong(usize),

@@ -8,7 +8,7 @@ use exponent::position::Position;
 use walks::Step;
 
 // How far a tree has been written: past the limit, or until a place.
-#[derive(Drop)]
+#[derive(Clone, Copy)]
 pub enum Grown {
     Full,
     Until(usize),

@@ -1,4 +1,5 @@
 // The trees of a plan's columns (source 000, Algorithms TR and B), grown into a lent list, and the pairs in them.
+#![tactic(auto)]
 
 mod grow; // grow.rt: a tree, by two functions that call each other, one at a bit and one at a check
 mod sorted; // sorted.rt: whether a list of nodes has a pair

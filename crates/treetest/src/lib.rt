@@ -1,5 +1,7 @@
 // The girth test by sorted pairs (source 000, Algorithm B): from each column the tree of walks is grown and sorted in a lent work
 // list. It answers only whether a plan passes.
+#![tactic(auto)]
+
 ghost use Rattle.std.specs.Prelude.{◌≡◌, true, length};
 ghost use Rattle.exponent.specs.Limits.{WellFormed};
 ghost use Rattle.girth.specs.Test.{allowed};
@@ -9,7 +11,7 @@ use exponent::{Shape, Validity};
 use refusal::Refusal;
 use trees::columns;
 
-#[derive(Drop)]
+#[derive(Clone, Copy)]
 pub enum Verdict {
     Passed,
     NotPassed,

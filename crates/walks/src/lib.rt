@@ -1,4 +1,6 @@
 // The search for short cycles in the Tanner graph of a plan: two ways of n edges that meet (specs/Meeting.antt is its model).
+#![tactic(auto)]
+
 ghost use Rattle.std.specs.Prelude.{◌≡◌, ◌+◌, ◌*◌, ◌<◌, ◌≤◌};
 ghost use Rattle.walks.specs.Steps.{AtCheck, AtBit, blocks_of, to_column, to_row};
 
@@ -14,14 +16,14 @@ pub mod meet; // meet.rt: two ways of n edges from one root that meet
 pub const STAMPS: usize = 65536;
 
 // A step of a walk: not taken, or to a position.
-#[derive(Drop)]
+#[derive(Clone, Copy)]
 pub enum Step {
     Stay,
     To(Position),
 }
 
 // The lowest row and the lowest column that a search enters.
-#[derive(Drop)]
+#[derive(Clone, Copy)]
 pub struct Corner {
     pub row: usize,
     pub col: usize,

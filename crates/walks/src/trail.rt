@@ -6,7 +6,7 @@ ghost use Rattle.walks.specs.Trail.{push, pop, no_trail, back_trail, join_trail}
 pub const PLACES: usize = 8;
 
 // A way: the bit at its end, its checks, and the bit after each; 0 in the places not used.
-#[derive(Drop)]
+#[derive(Clone, Copy)]
 pub struct Trail {
     pub end: usize,
     pub c0: usize,
@@ -28,7 +28,7 @@ pub struct Trail {
 }
 
 // What a search finds.
-#[derive(Drop)]
+#[derive(Clone, Copy)]
 pub enum Found {
     Nothing,
     Met(Trail),

@@ -11,14 +11,14 @@ use exponent::{Shape, Validity, block};
 use refusal::Refusal;
 
 // A block's row and column.
-#[derive(Drop)]
+#[derive(Clone, Copy)]
 pub struct At {
     pub row: usize,
     pub col: usize,
 }
 
 // What the call answers.
-#[derive(Drop)]
+#[derive(Clone, Copy)]
 pub enum Changed {
     Changed,
     Refused(Refusal),

@@ -1,4 +1,6 @@
 // The weights of a plan (document 02, slip 7), in two lent lists: how many blocks of each row and of each column are filled.
+#![tactic(auto)]
+
 ghost use Rattle.std.specs.Prelude.{◌≡◌, ◌<◌, length, get_or};
 ghost use Rattle.graph.specs.Count.{one};
 ghost use Rattle.exponent.specs.Plan.{filled};
@@ -17,14 +19,14 @@ pub const ROWS: usize = 192;
 pub const COLS: usize = 512;
 
 // The two sides of the graph. A bit's blocks are those of its column, a check's those of its row: a lane of blocks.
-#[derive(Drop)]
+#[derive(Clone, Copy)]
 pub enum Side {
     Bits,
     Checks,
 }
 
 // How many numbers the lists have that are lent to a builder: the plan, its row weights and its column weights.
-#[derive(Drop)]
+#[derive(Clone, Copy)]
 pub struct Room {
     pub plan: usize,
     pub rows: usize,

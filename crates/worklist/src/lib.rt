@@ -1,5 +1,7 @@
 // The decoder's work: forced erasures are filled with marked bytes (4 or 5) until no check forces one, by passes over the checks
 // and a waiting list.
+#![tactic(auto)]
+
 ghost use Rattle.std.specs.Prelude.{◌≡◌, ◌+◌, ◌*◌, ◌<◌, ◌≤◌};
 ghost use Rattle.graph.specs.Filling.{clash};
 ghost use Rattle.exponent.specs.Limits.{WellFormed};
@@ -18,7 +20,7 @@ pub mod marks; // marks.rt: turning marked bytes back or into bits
 const WAITING: usize = 512;
 
 // The bit that a check filled, if any.
-#[derive(Drop)]
+#[derive(Clone, Copy)]
 pub enum Fill {
     Nothing,
     Bit(usize),
