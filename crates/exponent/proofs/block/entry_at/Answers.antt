@@ -11,12 +11,10 @@ use lib.Signed.{le_z, non_neg, mag}
 use mir.Syntax.{w16, w64}
 use mir.Val.{Fits, to_z, of_z}
 use mir.ValLaws.{to_z-of_z}
-use borrow.Author.Rules.{rules}
 use borrow.Author.Tests.{le-leb, lt-leb}
 use Rattle.exponent.specs.declared.block.Block.TheVariants.{Zero, Shift, Invalid}
 use Rattle.exponent.specs.Plan.{block_of, entry_at}
-use Rattle.exponent.proofs.block.entry_at.Statement.{statement}
-use Rattle.exponent.proofs.block.entry_at.Tie as tie
+use Rattle.exponent.proofs.block.entry_at.Goals as goal
 
 never : {C : Type 0} → true ≡ false → C
 never e = absurd (subst T e tt)
@@ -46,46 +44,26 @@ signs lift (negsuc (suc n)) s =
       below = λ h. refl;
     }
 
-abbrev entry : tie.After-e → ℤ
-entry c = get_or c.before.args.plan.now c.before.args.place (pos 0)
-
--- the entry is what its bits are read back as
-read : (c : tie.After-e) → Signs c.before.args.lift (entry c) (to_z w16 (of_z w16 (entry c)))
-read c =
-    subst (Signs _ (entry c)) (sym (to_z-of_z w16 (entry c) (record { sfits = c.e.given }))) (signs _ (entry c) c.e.given)
-
-mul-e : tie.Need-overflow-mul-e
-mul-e c = search rules
-
-shared-slice-copy-out-e : tie.Need-shared-slice-copy-out-e
-shared-slice-copy-out-e c = search rules
-
-cast-remainder : tie.Need-overflow-cast-remainder
-cast-remainder c = (read c.before).fits c.if1.true
-
-remainder-requires : tie.Need-remainder-requires
-remainder-requires c κs = search rules
-
-returns : tie.Need-returns
+pub returns-then-e-ge0 : goal.returns-then-e-ge0
 unfolding entry_at
-returns c = ap Shift c.remainder.ensures ∙ (read c.before.before).shift c.before.if1.true
+returns-then-e-ge0 c =
+    let entry : ℤ = get_or c.args.plan.now c.args.place (pos 0) in
+    -- the entry is what its bits are read back as
+    let read : Signs c.args.lift entry (to_z w16 (of_z w16 entry)) = subst (Signs _ entry) (sym (to_z-of_z w16 entry (record { sfits = c.e-1.given }))) (signs _ entry c.e-1.given) in
+    ap Shift c.remainder.ensures ∙ read.shift c.if-e-ge0.true
 
-returns-2 : tie.Need-returns-2
+pub returns-then-e-geminus1 : goal.returns-then-e-geminus1
 unfolding entry_at
-returns-2 c = (read c.before.before).zeros c.before.if1.false c.if2.true
+returns-then-e-geminus1 c =
+    let entry : ℤ = get_or c.args.plan.now c.args.place (pos 0) in
+    -- the entry is what its bits are read back as
+    let read : Signs c.args.lift entry (to_z w16 (of_z w16 entry)) = subst (Signs _ entry) (sym (to_z-of_z w16 entry (record { sfits = c.e-1.given }))) (signs _ entry c.e-1.given) in
+    read.zeros c.if-e-ge0.false c.if-e-geminus1.true
 
-returns-3 : tie.Need-returns-3
+pub returns : goal.returns
 unfolding entry_at
-returns-3 c = (read c.before.before).below c.if2.false
-
-pub entry_at_spec : {M : Type 1} → statement M
-entry_at_spec =
-    tie.close
-    (tie.spec
-    mul-e
-    shared-slice-copy-out-e
-    cast-remainder
-    remainder-requires
-    returns
-    returns-2
-    returns-3)
+returns c =
+    let entry : ℤ = get_or c.args.plan.now c.args.place (pos 0) in
+    -- the entry is what its bits are read back as
+    let read : Signs c.args.lift entry (to_z w16 (of_z w16 entry)) = subst (Signs _ entry) (sym (to_z-of_z w16 entry (record { sfits = c.e-1.given }))) (signs _ entry c.e-1.given) in
+    read.below c.if-e-geminus1.false
