@@ -2,13 +2,14 @@
 // What it prints is the contract of `planning::plan_text`.
 #![tactic(auto)]
 
-use libc::{STDIN_FILENO, STDOUT_FILENO};
+use std::io;
+use std::io::Read;
 
-fn main() {
-    let mut input = [0u8; 256];
+fn main(rt: HostRuntime) -> io::Result<()> {
+    let mut input = Vec::new(rt.alloc());
     let mut plan = [0i16; 32768];
     let mut text = [0u8; 65536];
-    let n = io::read_full(STDIN_FILENO, &mut input);
-    let end = planning::plan_text(&input[..n], &mut plan, &mut text);
-    io::write_all(STDOUT_FILENO, &text[..end]);
+    rt.stdin().take(256).read_to_end(&mut input)?;
+    let end = planning::plan_text(&input, &mut plan, &mut text);
+    rt.write_all(&text[..end])
 }
