@@ -4,7 +4,6 @@ use native.Mathlib.Omega.{arith}
 use Rattle.bidiagonal.proofs.Judging.{few_judged, few_rows, few_cols, misplaced_judged, three_judged, other_judged}
 use Rattle.bidiagonal.proofs.judge.Goals as goal
 
--- the start, from behind the sizes
 pub returns-then-shape-lt3 : goal.returns-then-shape-lt3
 returns-then-shape-lt3 c = few_judged _ _ (few_rows c.args.plan.now c.args.shape c.if-shape-lt3.true)
 
