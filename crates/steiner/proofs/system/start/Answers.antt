@@ -3,32 +3,27 @@ use Prim.Native.Nat.{ℕ}
 use mathlib.Core.Path.{◌≡◌, refl, sym, ap}
 use Rattle.steiner.specs.System.{cols, start_among, start}
 use Rattle.steiner.proofs.Orders.{by_order}
-use Rattle.steiner.proofs.system.start.Statement.{statement}
-use Rattle.steiner.proofs.system.start.Tie as tie
+use Rattle.steiner.proofs.system.start.Goals as goal
 
-returns : tie.Need-returns
+pub returns-in-7 : goal.returns-in-7
 unfolding start start_among cols
-returns c = sym (ap start c.match.keys1)
+returns-in-7 c = sym (ap start c.in-7.is)
 
-returns-2 : tie.Need-returns-2
+pub returns-in-9 : goal.returns-in-9
 unfolding start start_among cols
-returns-2 c = sym (ap start c.match.keys2)
+returns-in-9 c = sym (ap start c.in-9.is)
 
-returns-3 : tie.Need-returns-3
+pub returns-in-13 : goal.returns-in-13
 unfolding start start_among cols
-returns-3 c = sym (ap start c.match.keys3)
+returns-in-13 c = sym (ap start c.in-13.is)
 
-returns-4 : tie.Need-returns-4
+pub returns-in-15 : goal.returns-in-15
 unfolding start start_among cols
-returns-4 c = sym (ap start c.match.keys4)
+returns-in-15 c = sym (ap start c.in-15.is)
 
-returns-5 : tie.Need-returns-5
+pub returns-in_default : goal.returns-in_default
 unfolding start start_among cols
-returns-5 c =
-    let (((a, b), d), e) = c.match.rest in
+returns-in_default c = let (((a, b), d), e) = c.in_default.in_default-own.rest in
     by_order (λ (v : ℕ). (v ≡ 7 → ⊥) → (v ≡ 9 → ⊥) → (v ≡ 13 → ⊥) → (v ≡ 15 → ⊥) → 240 ≡ start v)
     (λ p q r s. absurd (p refl)) (λ p q r s. absurd (q refl)) (λ p q r s. absurd (r refl)) (λ p q r s. absurd (s refl)) (λ p q r s. refl)
-    c.before.args.order c.before.requires a.1 b d e
-
-pub start_spec : {M : Type 1} → statement M
-start_spec = tie.close (tie.spec returns returns-2 returns-3 returns-4 returns-5)
+    c.args.order c.requires a.1 b d e

@@ -5,21 +5,16 @@ use native.Mathlib.Nat.{mul-le-mul}
 use native.Mathlib.Omega.{arith}
 use Rattle.steiner.specs.System.{cols}
 use Rattle.steiner.proofs.Orders.{small}
-use Rattle.steiner.proofs.system.cols.Statement.{statement}
-use Rattle.steiner.proofs.system.cols.Tie as tie
+use Rattle.steiner.proofs.system.cols.Goals as goal
 
-sub-result : tie.Need-overflow-sub-result
-sub-result c = let s = small c.args.order c.requires in omega arith
+pub overflow_sub-result : goal.overflow_sub-result
+overflow_sub-result c = let s = small c.args.order c.requires in omega arith
 
-mul-result : tie.Need-overflow-mul-result
-mul-result c =
-    let v = c.args.order in
+pub overflow_mul-result : goal.overflow_mul-result
+overflow_mul-result c = let v = c.args.order in
     let s = small v c.requires in
     omega (arith, mul-le-mul {n₁ = v} {m₁ = v - 1} {n₂ = 19} {m₂ = 18} s.few_points (omega arith))
 
-returns : tie.Need-returns
+pub returns : goal.returns
 unfolding cols
 returns c = refl
-
-pub cols_spec : {M : Type 1} → statement M
-cols_spec = tie.close (tie.spec sub-result mul-result returns)
