@@ -150,10 +150,10 @@ module _ (plan : List ℤ) (s : Shape) where
         }
 
     -- the bit that row k has in column m − 1, once that is settled
-    last_bit : (k : ℕ) (w : List ℕ) → 0 < s.lift → ((z : ℕ) → z < s.lift → column s.lift w (s.rows - 1) z ≡ last_bit plan s.rows s.cols s.lift third bit z)
+    row_bit : (k : ℕ) (w : List ℕ) → 0 < s.lift → ((z : ℕ) → z < s.lift → column s.lift w (s.rows - 1) z ≡ last_bit plan s.rows s.cols s.lift third bit z)
         → (z : ℕ) → z < s.lift → bit_for s.lift ((z + 0) % s.lift) (column s.lift w (s.rows - 1)) (block_at plan s.cols s.lift k (s.rows - 1))
         ≡ bit_for s.lift z (last_bit plan s.rows s.cols s.lift third bit) (block_at plan s.cols s.lift k (s.rows - 1))
-    last_bit k w some_lift last z h =
+    row_bit k w some_lift last z h =
         bit_for_same lift ((z + 0) % lift) some_lift _ _ last (block_at plan cols lift k (rows - 1))
         ∙ ap (λ (y : ℕ). bit_for lift y (last_bit plan rows cols lift third bit) (block_at plan cols lift k (rows - 1))) (unturned lift z h)
 
@@ -163,7 +163,7 @@ module _ (plan : List ℤ) (s : Shape) where
         → Settled plan s third bit 1 u
     settled_first w u two before a =
         settled_next 0 w u (omega arith) before (added_ready a before.ready) a.elsewhere λ z h.
-        add_parity _ _ _ _ (a.there z h ∙ ap (λ (n : ℕ). (column lift w 0 z + n) % 2) (last_bit 0 w before.ready.formed.some_lift before.last z h)) (before.rest 0 z (omega arith) (omega arith) h)
+        add_parity _ _ _ _ (a.there z h ∙ ap (λ (n : ℕ). (column lift w 0 z + n) % 2) (row_bit 0 w before.ready.formed.some_lift before.last z h)) (before.rest 0 z (omega arith) (omega arith) h)
         ∙ sym (front_first z)
 
     -- column k, by its row and the column before it
@@ -174,7 +174,7 @@ module _ (plan : List ℤ) (s : Shape) where
     settled_more k w v u some-k low before a b =
         settled_next k w u low before (added_ready b (added_ready a before.ready)) (λ j z h d. b.elsewhere j z h d ∙ a.elsewhere j z h d) λ z h.
         three_parities _ _ _ _ _ _ _
-        (b.there z h ∙ ap (λ (n : ℕ). (column lift v k z + n) % 2) (last_bit k v before.ready.formed.some_lift (λ y l. a.elsewhere (rows - 1) y l (λ e. omega arith) ∙ before.last y l) z h))
+        (b.there z h ∙ ap (λ (n : ℕ). (column lift v k z + n) % 2) (row_bit k v before.ready.formed.some_lift (λ y l. a.elsewhere (rows - 1) y l (λ e. omega arith) ∙ before.last y l) z h))
         (a.there z h ∙ ap (λ (n : ℕ). (column lift w k z + n) % 2) (ap (column lift w (k - 1)) (unturned lift z h) ∙ before.done (k - 1) z (omega arith) h))
         (before.rest k z (omega arith) low h)
         (front_more k z some-k)

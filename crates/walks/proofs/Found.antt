@@ -11,7 +11,7 @@ use lib.ListN.{length, length-map}
 use Rattle.graph.specs.Count.{Mem}
 use Rattle.graph.specs.Graph.{Bipartite}
 use Rattle.graph.proofs.Lists.{last}
-use Rattle.graph.specs.Walks.{Node, check, bit}
+use Rattle.graph.specs.Walks.{Node, bit}
 use Rattle.graph.specs.Girth.{SimpleCycle, Passes}
 use Rattle.graph.proofs.Cycles.{checks_among, bits_of}
 use Rattle.graph.proofs.Meeting.{Meeting, meeting_cycle}
