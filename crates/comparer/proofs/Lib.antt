@@ -1,5 +1,3 @@
 pub mod Computed
 pub mod Reading
 pub mod Forms
-pub mod Held
-pub mod Lent
