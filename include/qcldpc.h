@@ -1,5 +1,5 @@
-/* Quasi-cyclic LDPC plans: the seventeen functions of libqcldpc.a (`rt staticlib qcldpc`), for C99 on x86-64. A program is
- * linked with them by `-L target/staticlib -lqcldpc`.
+/* Quasi-cyclic LDPC plans: the seventeen functions of libqcldpc.a (`rt lib` in crates/qcldpc), for C99 on x86-64. A program is
+ * linked with them by `-L crates/qcldpc/out -lqcldpc`.
  *
  * A plan is rows x cols numbers, row by row: -1 is a zero (empty) block, e from 0 to 32,767 the identity with its rows
  * shifted right by the remainder of e by the lift; below -1 there is no block (refusal 6). A word is cols x lift bytes: 0 or

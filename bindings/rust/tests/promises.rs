@@ -111,10 +111,13 @@ fn code(path: &str, text: &str) -> String {
     text.lines().map(|line| line.split(comment).next().unwrap_or("")).collect::<Vec<_>>().join("\n")
 }
 
-/// Adds the files of a folder and of the folders in it.
+/// Adds the files of a folder and of the folders in it, but for the folders `out`, which rt makes.
 fn add_folder(tree: &mut Tree, folder: &str) {
     for entry in fs::read_dir(common::place(folder)).unwrap_or_else(|error| panic!("{folder}: {error}")) {
         let path = format!("{folder}/{}", entry.expect("an entry").file_name().to_string_lossy());
+        if path.ends_with("/out") {
+            continue;
+        }
         if common::place(&path).is_dir() {
             add_folder(tree, &path);
         } else {

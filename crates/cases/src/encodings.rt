@@ -6,6 +6,8 @@ use crate::say::{number, refused, say};
 use crate::source003::put_plan;
 use encoding::Encoding;
 use exponent::Shape;
+use std::io;
+use std::io::Stdout;
 
 // A byte as a number.
 pub fn wide(byte: u8) -> usize
@@ -15,10 +17,11 @@ pub fn wide(byte: u8) -> usize
 }
 
 // The bytes of a list.
-pub fn bits(list: &[u8]) {
+pub fn bits(out: Stdout, list: &[u8]) -> io::Result<()> {
     for k in 0..list.len() {
-        number(b" ", wide(list[k]));
+        number(out, b" ", wide(list[k]))?;
     }
+    Ok(())
 }
 
 // How many bytes of a list are this one.
@@ -33,32 +36,32 @@ pub fn count(list: &[u8], byte: u8) -> usize {
 }
 
 // Whether all bytes of a word are 7 as before.
-fn untouched(word: &[u8]) {
+fn untouched(out: Stdout, word: &[u8]) -> io::Result<()> {
     if count(word, 7) == word.len() {
-        say(b", all bytes still 7");
+        say(out, b", all bytes still 7")
     } else {
-        say(b", not all bytes still 7");
+        say(out, b", not all bytes still 7")
     }
 }
 
 // Encodes in a word of 7s, and writes the plan, the data bits and the frame, or the refusal and whether the word is as it was.
-fn small(plan: &[i16], s: Shape, info: &[u8], word: &mut [u8]) {
-    say(b"frame,");
-    show(plan, s.cols, s.lift);
-    number(b", ", info.len());
-    say(b" data bits");
-    bits(info);
-    number(b" in ", word.len());
-    say(b" bytes:");
+fn small(out: Stdout, plan: &[i16], s: Shape, info: &[u8], word: &mut [u8]) -> io::Result<()> {
+    say(out, b"frame,")?;
+    show(out, plan, s.cols, s.lift)?;
+    number(out, b", ", info.len())?;
+    say(out, b" data bits")?;
+    bits(out, info)?;
+    number(out, b" in ", word.len())?;
+    say(out, b" bytes:")?;
     match encoding::encode(plan, s.rows, s.cols, s.lift, info, word) {
-        Encoding::Encoded => bits(word),
+        Encoding::Encoded => bits(out, word)?,
         Encoding::Refused(r) => {
-            say(b" ");
-            refused(r);
-            untouched(word);
+            say(out, b" ")?;
+            refused(out, r)?;
+            untouched(out, word)?;
         }
     }
-    say(b"\n");
+    say(out, b"\n")
 }
 
 // A plan of the shape, whose column 2 has the remainders 1, 1 and 2 by 3; others differ from it in an entry or two.
@@ -90,39 +93,39 @@ const TOO_MANY: [u8; 7] = [1, 0, 0, 0, 0, 0, 0];
 const WITH_TWO: [u8; 6] = [1, 0, 0, 2, 0, 0];
 
 // A plan of three rows and five columns at P = 3.
-fn at_three(plan: &[i16], info: &[u8]) {
+fn at_three(out: Stdout, plan: &[i16], info: &[u8]) -> io::Result<()> {
     let s = Shape {
         rows: 3,
         cols: 5,
         lift: 3,
     };
     let mut word = [7u8; 15];
-    small(plan, s, info, &mut word);
+    small(out, plan, s, info, &mut word)
 }
 
 // The example at P = 1.
-fn at_one(info: [u8; 2]) {
+fn at_one(out: Stdout, info: [u8; 2]) -> io::Result<()> {
     let s = Shape {
         rows: 3,
         cols: 5,
         lift: 1,
     };
     let mut word = [7u8; 5];
-    small(&EXAMPLE, s, &info, &mut word);
+    small(out, &EXAMPLE, s, &info, &mut word)
 }
 
-pub fn small_plans() {
-    at_three(&EXAMPLE, &ONE);
-    at_three(&EXAMPLE, &FOUR);
-    at_three(&EXAMPLE, &ALL);
-    at_three(&ALL_EQUAL, &ONE);
-    at_three(&ALL_EQUAL, &FOUR);
-    at_one([1, 0]);
-    at_one([1, 1]);
+pub fn small_plans(out: Stdout) -> io::Result<()> {
+    at_three(out, &EXAMPLE, &ONE)?;
+    at_three(out, &EXAMPLE, &FOUR)?;
+    at_three(out, &EXAMPLE, &ALL)?;
+    at_three(out, &ALL_EQUAL, &ONE)?;
+    at_three(out, &ALL_EQUAL, &FOUR)?;
+    at_one(out, [1, 0])?;
+    at_one(out, [1, 1])
 }
 
 // A word of another length, a byte too short and too long.
-fn other_lengths() {
+fn other_lengths(out: Stdout) -> io::Result<()> {
     let s = Shape {
         rows: 3,
         cols: 5,
@@ -130,12 +133,12 @@ fn other_lengths() {
     };
     let mut short = [7u8; 14];
     let mut long = [7u8; 16];
-    small(&EXAMPLE, s, &ONE, &mut short);
-    small(&EXAMPLE, s, &ONE, &mut long);
+    small(out, &EXAMPLE, s, &ONE, &mut short)?;
+    small(out, &EXAMPLE, s, &ONE, &mut long)
 }
 
 // Two rows.
-fn two_rows() {
+fn two_rows(out: Stdout) -> io::Result<()> {
     let s = Shape {
         rows: 2,
         cols: 4,
@@ -143,11 +146,11 @@ fn two_rows() {
     };
     let plan = [0i16, 1, 0, 2, 3, 4, 1, -1];
     let mut word = [7u8; 12];
-    small(&plan, s, &ONE, &mut word);
+    small(out, &plan, s, &ONE, &mut word)
 }
 
 // No data column.
-fn no_data() {
+fn no_data(out: Stdout) -> io::Result<()> {
     let s = Shape {
         rows: 3,
         cols: 3,
@@ -156,11 +159,11 @@ fn no_data() {
     let plan = [0i16, -1, 1, 3, 0, 4, -1, 0, 2];
     let info = [0u8; 0];
     let mut word = [7u8; 9];
-    small(&plan, s, &info, &mut word);
+    small(out, &plan, s, &info, &mut word)
 }
 
 // Four filled blocks in column m − 1, all with the same remainder: a plan by the rule with one more.
-fn four_filled() {
+fn four_filled(out: Stdout) -> io::Result<()> {
     let s = Shape {
         rows: 4,
         cols: 5,
@@ -171,34 +174,34 @@ fn four_filled() {
     let mut word = [7u8; 15];
     put_plan(s, &mut plan);
     plan[8] = 5;
-    small(&plan, s, &info, &mut word);
+    small(out, &plan, s, &info, &mut word)
 }
 
 // A word of another length, before a plan of another shape.
-fn length_first() {
+fn length_first(out: Stdout) -> io::Result<()> {
     let s = Shape {
         rows: 3,
         cols: 5,
         lift: 3,
     };
     let mut short = [7u8; 14];
-    small(&TURNED, s, &ONE, &mut short);
+    small(out, &TURNED, s, &ONE, &mut short)
 }
 
 // Refusals 16, 30, 31 and 6; last, 16 before 30 and 30 before 31.
-pub fn turned_away() {
-    other_lengths();
-    two_rows();
-    no_data();
-    at_three(&OFF_DIAGONALS, &ONE);
-    at_three(&TURNED, &ONE);
-    at_three(&TWO_FILLED, &ONE);
-    four_filled();
-    at_three(&ALL_DIFFERENT, &ONE);
-    at_three(&EXAMPLE, &TOO_FEW);
-    at_three(&EXAMPLE, &TOO_MANY);
-    at_three(&EXAMPLE, &WITH_TWO);
-    at_three(&NO_ENTRY, &ONE);
-    length_first();
-    at_three(&TURNED, &TOO_FEW);
+pub fn turned_away(out: Stdout) -> io::Result<()> {
+    other_lengths(out)?;
+    two_rows(out)?;
+    no_data(out)?;
+    at_three(out, &OFF_DIAGONALS, &ONE)?;
+    at_three(out, &TURNED, &ONE)?;
+    at_three(out, &TWO_FILLED, &ONE)?;
+    four_filled(out)?;
+    at_three(out, &ALL_DIFFERENT, &ONE)?;
+    at_three(out, &EXAMPLE, &TOO_FEW)?;
+    at_three(out, &EXAMPLE, &TOO_MANY)?;
+    at_three(out, &EXAMPLE, &WITH_TWO)?;
+    at_three(out, &NO_ENTRY, &ONE)?;
+    length_first(out)?;
+    at_three(out, &TURNED, &TOO_FEW)
 }

@@ -11,43 +11,45 @@ use crate::source003::{checksum, differing, put_received};
 use crate::steiner_plans::fill;
 use exponent::Shape;
 use flipping::Flipping;
+use std::io;
+use std::io::Stdout;
 
 // One round. Writes how many bits were turned, or the refusal.
-fn flip(plan: &[i16], s: Shape, word: &mut [u8]) {
+fn flip(out: Stdout, plan: &[i16], s: Shape, word: &mut [u8]) -> io::Result<()> {
     match flipping::flip(plan, s.rows, s.cols, s.lift, word) {
         Flipping::Flipped(n) => {
-            number(b": ", n);
-            say(b" turned");
+            number(out, b": ", n)?;
+            say(out, b" turned")
         }
         Flipping::Refused(r) => {
-            say(b": ");
-            refused(r);
+            say(out, b": ")?;
+            refused(out, r)
         }
     }
 }
 
 // A round on a small word, of which `before` is a copy. Writes the plan, the word, what came of it, and the word then.
-fn small(plan: &[i16], s: Shape, before: &[u8], word: &mut [u8]) {
-    say(b"turned,");
-    show(plan, s.cols, s.lift);
-    say(b", frame");
-    bits(before);
-    flip(plan, s, word);
-    number(b", ", differing(before, word));
-    say(b" bytes changed:");
-    bits(word);
-    say(b"\n");
+fn small(out: Stdout, plan: &[i16], s: Shape, before: &[u8], word: &mut [u8]) -> io::Result<()> {
+    say(out, b"turned,")?;
+    show(out, plan, s.cols, s.lift)?;
+    say(out, b", frame")?;
+    bits(out, before)?;
+    flip(out, plan, s, word)?;
+    number(out, b", ", differing(before, word))?;
+    say(out, b" bytes changed:")?;
+    bits(out, word)?;
+    say(out, b"\n")
 }
 
 // A plan of seven rows and columns at P = 1.
-fn seven(plan: &[i16], word: [u8; 7]) {
+fn seven(out: Stdout, plan: &[i16], word: [u8; 7]) -> io::Result<()> {
     let s = Shape {
         rows: 7,
         cols: 7,
         lift: 1,
     };
     let mut after = word;
-    small(plan, s, &word, &mut after);
+    small(out, plan, s, &word, &mut after)
 }
 
 // Order 7's Steiner plan at P = 1, the Fano plane.
@@ -64,16 +66,17 @@ fn fano() -> [i16; 49] {
 const CODEWORD: [u8; 7] = [1, 0, 1, 1, 0, 1, 0];
 
 // The codeword as it is, with one error, and with two.
-pub fn order_seven() {
+pub fn order_seven(out: Stdout) -> io::Result<()> {
     let plan = fano();
-    seven(&plan, CODEWORD);
-    seven(&plan, [1, 0, 1, 1, 0, 1, 1]);
-    seven(&plan, [0, 0, 1, 1, 0, 1, 1]);
+    seven(out, &plan, CODEWORD)?;
+    seven(out, &plan, [1, 0, 1, 1, 0, 1, 1])?;
+    seven(out, &plan, [0, 0, 1, 1, 0, 1, 1])
 }
 
 // A round on a codeword whose bit is `wrong` at every `step`th place. Writes what came of it, and in how many bytes the word then differs
 // from the codeword.
 fn round(
+    out: Stdout,
     label: &[u8],
     plan: &[i16],
     s: Shape,
@@ -81,19 +84,27 @@ fn round(
     step: usize,
     wrong: u8,
     word: &mut [u8],
-) {
+) -> io::Result<()> {
     put_received(codeword, step, wrong, word);
-    say(label);
-    flip(plan, s, word);
-    number(b", ", differing(codeword, word));
-    number(b" bytes differ, checksum ", checksum(word));
+    say(out, label)?;
+    flip(out, plan, s, word)?;
+    number(out, b", ", differing(codeword, word))?;
+    number(out, b" bytes differ, checksum ", checksum(word))
 }
 
 // Rounds on a codeword whose bits are all alike: as it is, with one error, with few and with many; `wrong` is the other bit.
-fn rounds(plan: &[i16], s: Shape, codeword: &[u8], wrong: u8, word: &mut [u8]) {
-    round(b", code frame", plan, s, codeword, 0, wrong, word);
-    round(b"; bit 0 wrong", plan, s, codeword, 65536, wrong, word);
+fn rounds(
+    out: Stdout,
+    plan: &[i16],
+    s: Shape,
+    codeword: &[u8],
+    wrong: u8,
+    word: &mut [u8],
+) -> io::Result<()> {
+    round(out, b", code frame", plan, s, codeword, 0, wrong, word)?;
+    round(out, b"; bit 0 wrong", plan, s, codeword, 65536, wrong, word)?;
     round(
+        out,
         b"; every 97th bit wrong",
         plan,
         s,
@@ -101,24 +112,33 @@ fn rounds(plan: &[i16], s: Shape, codeword: &[u8], wrong: u8, word: &mut [u8]) {
         97,
         wrong,
         word,
-    );
-    round(b"; every 3rd bit wrong", plan, s, codeword, 3, wrong, word);
-    say(b"\n");
+    )?;
+    round(
+        out,
+        b"; every 3rd bit wrong",
+        plan,
+        s,
+        codeword,
+        3,
+        wrong,
+        word,
+    )?;
+    say(out, b"\n")
 }
 
 // Rounds on a word of that many bits, all alike.
-fn alike(plan: &[i16], s: Shape, size: usize, bit: u8, wrong: u8)
+fn alike(out: Stdout, plan: &[i16], s: Shape, size: usize, bit: u8, wrong: u8) -> io::Result<()>
     requires { size ≤ 65536 }
 {
     let codeword = [bit; 65536];
     let mut word = [bit; 65536];
-    number(b", P = ", s.lift);
-    number(b", all bits ", wide(bit));
-    rounds(plan, s, &codeword[0..size], wrong, &mut word[0..size]);
+    number(out, b", P = ", s.lift)?;
+    number(out, b", all bits ", wide(bit))?;
+    rounds(out, plan, s, &codeword[0..size], wrong, &mut word[0..size])
 }
 
 // Each row of STS(9) has four blocks, so that all bits 1 are a codeword.
-fn sts_9(lift: usize, w: [[i16; 9]; 6])
+fn sts_9(out: Stdout, lift: usize, w: [[i16; 9]; 6]) -> io::Result<()>
     requires { lift ≤ 4096 }
 {
     let s = Shape {
@@ -127,27 +147,27 @@ fn sts_9(lift: usize, w: [[i16; 9]; 6])
         lift,
     };
     let plan = plan_of_9(w);
-    say(b"turned, 000 table VI STS(9)");
-    alike(&plan, s, 12 * lift, 1, 0);
+    say(out, b"turned, 000 table VI STS(9)")?;
+    alike(out, &plan, s, 12 * lift, 1, 0)
 }
 
 // Plans of source 000, Table VI.
-pub fn table_six() {
-    sts_9(151, STS_9_M151);
-    sts_9(665, STS_9_M665);
-    sts_9(2723, STS_9_M2723);
+pub fn table_six(out: Stdout) -> io::Result<()> {
+    sts_9(out, 151, STS_9_M151)?;
+    sts_9(out, 665, STS_9_M665)?;
+    sts_9(out, 2723, STS_9_M2723)?;
     let s = Shape {
         rows: 12,
         cols: 20,
         lift: 486,
     };
     let plan = shortened_plan_of_13(S_STS_13_M486);
-    say(b"turned, 000 table VI S-STS(13)");
-    alike(&plan, s, 9720, 0, 1);
+    say(out, b"turned, 000 table VI S-STS(13)")?;
+    alike(out, &plan, s, 9720, 0, 1)
 }
 
 // Order 19's Steiner plan at its largest lift.
-pub fn order_nineteen() {
+pub fn order_nineteen(out: Stdout) -> io::Result<()> {
     let s = Shape {
         rows: 19,
         cols: 57,
@@ -159,12 +179,12 @@ pub fn order_nineteen() {
     let mut bycol = [0u16; 57];
     fill(&mut voltages);
     steiner::build(19, 1149, &voltages, &mut plan, &mut byrow, &mut bycol);
-    say(b"turned, steiner 19");
-    alike(&plan, s, 65493, 0, 1);
+    say(out, b"turned, steiner 19")?;
+    alike(out, &plan, s, 65493, 0, 1)
 }
 
 // A word that is a byte too short, with bytes above 2 as well.
-fn too_short(plan: &[i16]) {
+fn too_short(out: Stdout, plan: &[i16]) -> io::Result<()> {
     let s = Shape {
         rows: 7,
         cols: 7,
@@ -172,11 +192,11 @@ fn too_short(plan: &[i16]) {
     };
     let word = [3u8; 6];
     let mut after = word;
-    small(plan, s, &word, &mut after);
+    small(out, plan, s, &word, &mut after)
 }
 
 // A plan of the shape of source 003, which has columns of two blocks, and a codeword of it.
-fn two_in_column() {
+fn two_in_column(out: Stdout) -> io::Result<()> {
     let s = Shape {
         rows: 3,
         cols: 5,
@@ -184,19 +204,19 @@ fn two_in_column() {
     };
     let word = [0u8, 1, 0, 1, 0, 1, 0, 1, 1, 1, 0, 0, 0, 0, 0];
     let mut after = word;
-    small(&EXAMPLE, s, &word, &mut after);
+    small(out, &EXAMPLE, s, &word, &mut after)
 }
 
 // Refusals 16 before 18, and 18 before 19. With a block less in the last column, 19 before 32, and 32; with one more in the first, 32.
-pub fn turned_away() {
+pub fn turned_away(out: Stdout) -> io::Result<()> {
     let mut plan = fano();
-    too_short(&plan);
-    seven(&plan, [1, 2, 1, 1, 0, 1, 3]);
+    too_short(out, &plan)?;
+    seven(out, &plan, [1, 2, 1, 1, 0, 1, 3])?;
     plan[48] = -1;
-    seven(&plan, [1, 0, 1, 2, 0, 2, 0]);
-    seven(&plan, CODEWORD);
+    seven(out, &plan, [1, 0, 1, 2, 0, 2, 0])?;
+    seven(out, &plan, CODEWORD)?;
     plan[48] = 0;
     plan[14] = 0;
-    seven(&plan, CODEWORD);
-    two_in_column();
+    seven(out, &plan, CODEWORD)?;
+    two_in_column(out)
 }

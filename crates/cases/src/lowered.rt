@@ -1,6 +1,8 @@
 // A matrix with P lowered below its largest voltage, by a tenth and by a quarter of that, so that voltages stand at or above P.
 use crate::say::{LARGEST, judged, number, say};
 use exponent::block;
+use std::io;
+use std::io::Stdout;
 
 // No entry reaches this lift: it leaves all as they are.
 pub const ABOVE_ALL: usize = 32768;
@@ -19,16 +21,16 @@ fn largest(plan: &[i16]) -> usize {
 }
 
 // The verdict at the largest target, with P lowered.
-fn at(plan: &[i16], rows: usize, cols: usize, lift: usize) {
-    number(b" at P = ", lift);
-    say(b" ");
-    judged(plan, rows, cols, lift, LARGEST);
+fn at(out: Stdout, plan: &[i16], rows: usize, cols: usize, lift: usize) -> io::Result<()> {
+    number(out, b" at P = ", lift)?;
+    say(out, b" ")?;
+    judged(out, plan, rows, cols, lift, LARGEST)
 }
 
-pub fn lowered(plan: &[i16], rows: usize, cols: usize) {
+pub fn lowered(out: Stdout, plan: &[i16], rows: usize, cols: usize) -> io::Result<()> {
     let most = largest(plan);
-    say(b";");
-    at(plan, rows, cols, most - most / 10);
-    say(b",");
-    at(plan, rows, cols, most - most / 4);
+    say(out, b";")?;
+    at(out, plan, rows, cols, most - most / 10)?;
+    say(out, b",")?;
+    at(out, plan, rows, cols, most - most / 4)
 }

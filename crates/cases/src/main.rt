@@ -19,48 +19,51 @@ mod tables; // tables.rt: table plans, and source 004's examples
 mod text; // text.rt: alist text
 mod weights_of; // weights_of.rt: row and column weights
 
-fn main() {
-    tables::order_six();
-    tables::order_seven();
-    tables::diagonal();
-    tables::printed();
-    text::one_row();
-    source002::example_one();
-    source001::table_two();
-    source001::girth_fourteen();
-    source000::table_two();
-    source000::table_three();
-    source000::table_four();
-    source000::table_five();
-    source000_sts::table_six();
-    steiner_plans::orders_seven_and_nine();
-    steiner_plans::orders_thirteen_and_fifteen();
-    steiner_plans::order_nineteen();
-    steiner_plans::turned_away();
-    steiner_plans::negative();
-    changes::small();
-    changes::judged_again();
-    pairs::example_one();
-    pairs::labelings();
-    pairs::four_columns();
-    pairs::five_columns();
-    pairs::five_lowered();
-    joins::example();
-    joins::above();
-    joins::labelings();
-    joins::tables();
-    joins::largest_lift();
-    joins::sizes();
-    joins::turned_away();
-    joins::no_block();
-    encodings::small_plans();
-    source003::eight_columns();
-    source003::twelve_rows();
-    source003::six_rows();
-    source003::most_bits();
-    encodings::turned_away();
-    flips::order_seven();
-    flips::table_six();
-    flips::order_nineteen();
-    flips::turned_away();
+use std::io;
+
+fn main(rt: HostRuntime) -> io::Result<()> {
+    let out = rt.stdout();
+    tables::order_six(out)?;
+    tables::order_seven(out)?;
+    tables::diagonal(out)?;
+    tables::printed(out)?;
+    text::one_row(out)?;
+    source002::example_one(out)?;
+    source001::table_two(out)?;
+    source001::girth_fourteen(out)?;
+    source000::table_two(out)?;
+    source000::table_three(out)?;
+    source000::table_four(out)?;
+    source000::table_five(out)?;
+    source000_sts::table_six(out)?;
+    steiner_plans::orders_seven_and_nine(out)?;
+    steiner_plans::orders_thirteen_and_fifteen(out)?;
+    steiner_plans::order_nineteen(out)?;
+    steiner_plans::turned_away(out)?;
+    steiner_plans::negative(out)?;
+    changes::small(out)?;
+    changes::judged_again(out)?;
+    pairs::example_one(out)?;
+    pairs::labelings(out)?;
+    pairs::four_columns(out)?;
+    pairs::five_columns(out)?;
+    pairs::five_lowered(out)?;
+    joins::example(out)?;
+    joins::above(out)?;
+    joins::labelings(out)?;
+    joins::tables(out)?;
+    joins::largest_lift(out)?;
+    joins::sizes(out)?;
+    joins::turned_away(out)?;
+    joins::no_block(out)?;
+    encodings::small_plans(out)?;
+    source003::eight_columns(out)?;
+    source003::twelve_rows(out)?;
+    source003::six_rows(out)?;
+    source003::most_bits(out)?;
+    encodings::turned_away(out)?;
+    flips::order_seven(out)?;
+    flips::table_six(out)?;
+    flips::order_nineteen(out)?;
+    flips::turned_away(out)
 }

@@ -5,6 +5,8 @@ ghost use Rattle.std.specs.Prelude.{◌≤◌};
 
 use crate::lowered::lowered;
 use crate::say::{number, say, verdicts};
+use std::io;
+use std::io::Stdout;
 
 // Table II: girth 6.
 const II_K4_M5: [[i16; 11]; 2] = [
@@ -277,118 +279,136 @@ pub fn put_rows(rows: [[i16; 11]; 2], cols: usize, plan: &mut [i16; 36])
 }
 
 // The verdicts on the plan of three rows.
-fn of_three_rows(plan: [i16; 36], cols: usize, lift: usize, girth: usize)
+fn of_three_rows(
+    out: Stdout,
+    plan: [i16; 36],
+    cols: usize,
+    lift: usize,
+    girth: usize,
+) -> io::Result<()>
     requires { cols ≤ 12 }
 {
     let size = 3 * cols;
-    verdicts(&plan[0..size], 3, cols, lift, girth);
+    verdicts(out, &plan[0..size], 3, cols, lift, girth)
 }
 
 // The verdicts with P lowered.
-fn with_less(plan: [i16; 36], cols: usize)
+fn with_less(out: Stdout, plan: [i16; 36], cols: usize) -> io::Result<()>
     requires { cols ≤ 12 }
 {
     let size = 3 * cols;
-    lowered(&plan[0..size], 3, cols);
+    lowered(out, &plan[0..size], 3, cols)
 }
 
 // Judges a code at its girth and at the largest target, then with P lowered; K = `cols`, M = `lift`.
-fn code(girth: usize, cols: usize, lift: usize, rows: [[i16; 11]; 2])
+fn code(out: Stdout, girth: usize, cols: usize, lift: usize, rows: [[i16; 11]; 2]) -> io::Result<()>
     requires { cols ≤ 12 }
 {
     let mut plan = [0i16; 36];
     put_rows(rows, cols, &mut plan);
-    number(b", K = ", cols);
-    number(b", M = ", lift);
-    say(b": ");
-    of_three_rows(plan, cols, lift, girth);
-    with_less(plan, cols);
-    say(b"\n");
+    number(out, b", K = ", cols)?;
+    number(out, b", M = ", lift)?;
+    say(out, b": ")?;
+    of_three_rows(out, plan, cols, lift, girth)?;
+    with_less(out, plan, cols)?;
+    say(out, b"\n")
 }
 
 // The table of a girth.
-fn table_of(girth: usize) {
+fn table_of(out: Stdout, girth: usize) -> io::Result<()> {
     match girth {
-        6 => say(b"000 table II"),
-        8 => say(b"000 table III"),
-        10 => say(b"000 table IV"),
-        _ => say(b"000 table V"),
+        6 => say(out, b"000 table II"),
+        8 => say(out, b"000 table III"),
+        10 => say(out, b"000 table IV"),
+        _ => say(out, b"000 table V"),
     }
 }
 
-fn short(girth: usize, cols: usize, lift: usize, rows: [[i16; 11]; 2])
+fn short(
+    out: Stdout,
+    girth: usize,
+    cols: usize,
+    lift: usize,
+    rows: [[i16; 11]; 2],
+) -> io::Result<()>
     requires { cols ≤ 12 }
 {
-    table_of(girth);
-    say(b" short");
-    code(girth, cols, lift, rows);
+    table_of(out, girth)?;
+    say(out, b" short")?;
+    code(out, girth, cols, lift, rows)
 }
 
-fn large(girth: usize, cols: usize, lift: usize, rows: [[i16; 11]; 2])
+fn large(
+    out: Stdout,
+    girth: usize,
+    cols: usize,
+    lift: usize,
+    rows: [[i16; 11]; 2],
+) -> io::Result<()>
     requires { cols ≤ 12 }
 {
-    table_of(girth);
-    say(b" large distance");
-    code(girth, cols, lift, rows);
+    table_of(out, girth)?;
+    say(out, b" large distance")?;
+    code(out, girth, cols, lift, rows)
 }
 
-pub fn table_two() {
-    short(6, 4, 5, II_K4_M5);
-    short(6, 5, 5, II_K5_M5);
-    short(6, 6, 7, II_K6_M7);
-    short(6, 7, 7, II_K7_M7);
-    short(6, 8, 9, II_K8_M9);
-    short(6, 9, 9, II_K9_M9);
-    short(6, 10, 11, II_K10_M11);
-    short(6, 11, 11, II_K11_M11);
-    short(6, 12, 13, II_K12_M13);
-    large(6, 4, 23, II_K4_M23);
-    large(6, 5, 49, II_K5_M49);
-    large(6, 6, 69, II_K6_M69);
-    large(6, 7, 109, II_K7_M109);
-    large(6, 8, 153, II_K8_M153);
+pub fn table_two(out: Stdout) -> io::Result<()> {
+    short(out, 6, 4, 5, II_K4_M5)?;
+    short(out, 6, 5, 5, II_K5_M5)?;
+    short(out, 6, 6, 7, II_K6_M7)?;
+    short(out, 6, 7, 7, II_K7_M7)?;
+    short(out, 6, 8, 9, II_K8_M9)?;
+    short(out, 6, 9, 9, II_K9_M9)?;
+    short(out, 6, 10, 11, II_K10_M11)?;
+    short(out, 6, 11, 11, II_K11_M11)?;
+    short(out, 6, 12, 13, II_K12_M13)?;
+    large(out, 6, 4, 23, II_K4_M23)?;
+    large(out, 6, 5, 49, II_K5_M49)?;
+    large(out, 6, 6, 69, II_K6_M69)?;
+    large(out, 6, 7, 109, II_K7_M109)?;
+    large(out, 6, 8, 153, II_K8_M153)
 }
 
-pub fn table_three() {
-    short(8, 4, 9, III_K4_M9);
-    short(8, 5, 13, III_K5_M13);
-    short(8, 6, 18, III_K6_M18);
-    short(8, 7, 21, III_K7_M21);
-    short(8, 8, 25, III_K8_M25);
-    short(8, 9, 30, III_K9_M30);
-    short(8, 10, 35, III_K10_M35);
-    short(8, 11, 41, III_K11_M41);
-    short(8, 12, 47, III_K12_M47);
-    large(8, 4, 29, III_K4_M29);
-    large(8, 5, 45, III_K5_M45);
-    large(8, 6, 72, III_K6_M72);
-    large(8, 7, 111, III_K7_M111);
-    large(8, 8, 160, III_K8_M160);
-    large(8, 9, 154, III_K9_M154);
+pub fn table_three(out: Stdout) -> io::Result<()> {
+    short(out, 8, 4, 9, III_K4_M9)?;
+    short(out, 8, 5, 13, III_K5_M13)?;
+    short(out, 8, 6, 18, III_K6_M18)?;
+    short(out, 8, 7, 21, III_K7_M21)?;
+    short(out, 8, 8, 25, III_K8_M25)?;
+    short(out, 8, 9, 30, III_K9_M30)?;
+    short(out, 8, 10, 35, III_K10_M35)?;
+    short(out, 8, 11, 41, III_K11_M41)?;
+    short(out, 8, 12, 47, III_K12_M47)?;
+    large(out, 8, 4, 29, III_K4_M29)?;
+    large(out, 8, 5, 45, III_K5_M45)?;
+    large(out, 8, 6, 72, III_K6_M72)?;
+    large(out, 8, 7, 111, III_K7_M111)?;
+    large(out, 8, 8, 160, III_K8_M160)?;
+    large(out, 8, 9, 154, III_K9_M154)
 }
 
-pub fn table_four() {
-    short(10, 4, 37, IV_K4_M37);
-    short(10, 5, 61, IV_K5_M61);
-    short(10, 6, 101, IV_K6_M101);
-    short(10, 7, 159, IV_K7_M159);
-    short(10, 8, 219, IV_K8_M219);
-    short(10, 9, 319, IV_K9_M319);
-    short(10, 10, 430, IV_K10_M430);
-    short(10, 11, 560, IV_K11_M560);
-    short(10, 12, 737, IV_K12_M737);
-    large(10, 4, 44, IV_K4_M44);
+pub fn table_four(out: Stdout) -> io::Result<()> {
+    short(out, 10, 4, 37, IV_K4_M37)?;
+    short(out, 10, 5, 61, IV_K5_M61)?;
+    short(out, 10, 6, 101, IV_K6_M101)?;
+    short(out, 10, 7, 159, IV_K7_M159)?;
+    short(out, 10, 8, 219, IV_K8_M219)?;
+    short(out, 10, 9, 319, IV_K9_M319)?;
+    short(out, 10, 10, 430, IV_K10_M430)?;
+    short(out, 10, 11, 560, IV_K11_M560)?;
+    short(out, 10, 12, 737, IV_K12_M737)?;
+    large(out, 10, 4, 44, IV_K4_M44)
 }
 
-pub fn table_five() {
-    short(12, 4, 73, V_K4_M73);
-    short(12, 5, 163, V_K5_M163);
-    short(12, 6, 310, V_K6_M310);
-    short(12, 6, 306, V_K6_M306);
-    short(12, 7, 566, V_K7_M566);
-    short(12, 8, 848, V_K8_M848);
-    short(12, 9, 1376, V_K9_M1376);
-    short(12, 10, 2103, V_K10_M2103);
-    short(12, 11, 3137, V_K11_M3137);
-    short(12, 12, 4730, V_K12_M4730);
+pub fn table_five(out: Stdout) -> io::Result<()> {
+    short(out, 12, 4, 73, V_K4_M73)?;
+    short(out, 12, 5, 163, V_K5_M163)?;
+    short(out, 12, 6, 310, V_K6_M310)?;
+    short(out, 12, 6, 306, V_K6_M306)?;
+    short(out, 12, 7, 566, V_K7_M566)?;
+    short(out, 12, 8, 848, V_K8_M848)?;
+    short(out, 12, 9, 1376, V_K9_M1376)?;
+    short(out, 12, 10, 2103, V_K10_M2103)?;
+    short(out, 12, 11, 3137, V_K11_M3137)?;
+    short(out, 12, 12, 4730, V_K12_M4730)
 }

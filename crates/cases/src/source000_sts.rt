@@ -4,6 +4,8 @@
 ghost use Rattle.std.specs.Prelude.{◌≤◌, ◌<◌};
 
 use crate::say::{number, say, verdicts};
+use std::io;
+use std::io::Stdout;
 
 // Points count from 0; in the source those of STS(9) count from 1.
 const STS_9: [[u8; 3]; 12] = [
@@ -136,11 +138,18 @@ fn put_columns(triples: &[[u8; 3]], w: [[i16; 9]; 6], cols: usize, plan: &mut [i
 }
 
 // Judges a code at its girth and at the largest target; M = `lift`.
-fn code(plan: &[i16], rows: usize, cols: usize, lift: usize, girth: usize) {
-    number(b", M = ", lift);
-    say(b": ");
-    verdicts(plan, rows, cols, lift, girth);
-    say(b"\n");
+fn code(
+    out: Stdout,
+    plan: &[i16],
+    rows: usize,
+    cols: usize,
+    lift: usize,
+    girth: usize,
+) -> io::Result<()> {
+    number(out, b", M = ", lift)?;
+    say(out, b": ")?;
+    verdicts(out, plan, rows, cols, lift, girth)?;
+    say(out, b"\n")
 }
 
 pub fn plan_of_9(w: [[i16; 9]; 6]) -> [i16; 108] {
@@ -155,30 +164,30 @@ pub fn shortened_plan_of_13(w: [[i16; 9]; 6]) -> [i16; 240] {
     plan
 }
 
-fn sts_9(lift: usize, girth: usize, w: [[i16; 9]; 6]) {
+fn sts_9(out: Stdout, lift: usize, girth: usize, w: [[i16; 9]; 6]) -> io::Result<()> {
     let plan = plan_of_9(w);
-    say(b"000 table VI STS(9)");
-    code(&plan, 9, 12, lift, girth);
+    say(out, b"000 table VI STS(9)")?;
+    code(out, &plan, 9, 12, lift, girth)
 }
 
-fn s_sts_13(lift: usize, girth: usize, w: [[i16; 9]; 6]) {
+fn s_sts_13(out: Stdout, lift: usize, girth: usize, w: [[i16; 9]; 6]) -> io::Result<()> {
     let plan = shortened_plan_of_13(w);
-    say(b"000 table VI S-STS(13)");
-    code(&plan, 12, 20, lift, girth);
+    say(out, b"000 table VI S-STS(13)")?;
+    code(out, &plan, 12, 20, lift, girth)
 }
 
-fn sts_13(lift: usize, girth: usize, w: [[i16; 9]; 6]) {
+fn sts_13(out: Stdout, lift: usize, girth: usize, w: [[i16; 9]; 6]) -> io::Result<()> {
     let mut plan = [-1i16; 338];
     put_columns(&STS_13, w, 26, &mut plan);
-    say(b"000 table VI STS(13)");
-    code(&plan, 13, 26, lift, girth);
+    say(out, b"000 table VI STS(13)")?;
+    code(out, &plan, 13, 26, lift, girth)
 }
 
-pub fn table_six() {
-    sts_9(151, 14, STS_9_M151);
-    s_sts_13(486, 14, S_STS_13_M486);
-    sts_13(1153, 14, STS_13_M1153);
-    sts_9(665, 16, STS_9_M665);
-    s_sts_13(2562, 16, S_STS_13_M2562);
-    sts_9(2723, 18, STS_9_M2723);
+pub fn table_six(out: Stdout) -> io::Result<()> {
+    sts_9(out, 151, 14, STS_9_M151)?;
+    s_sts_13(out, 486, 14, S_STS_13_M486)?;
+    sts_13(out, 1153, 14, STS_13_M1153)?;
+    sts_9(out, 665, 16, STS_9_M665)?;
+    s_sts_13(out, 2562, 16, S_STS_13_M2562)?;
+    sts_9(out, 2723, 18, STS_9_M2723)
 }

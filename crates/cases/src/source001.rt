@@ -3,6 +3,8 @@
 // lowered.
 use crate::lowered::lowered;
 use crate::say::{number, say, verdicts};
+use std::io;
+use std::io::Stdout;
 
 // Table II, rate 1/4: the code (168, 42), with its printed girth 8.
 pub const II_M21: [[i16; 8]; 6] = [
@@ -45,34 +47,34 @@ pub fn put_rows(rows: [[i16; 8]; 6], plan: &mut [i16; 48]) {
 }
 
 // The verdicts on a plan of (6).
-fn of_six(plan: [i16; 48], lift: usize, girth: usize) {
-    verdicts(&plan, 6, 8, lift, girth);
+fn of_six(out: Stdout, plan: [i16; 48], lift: usize, girth: usize) -> io::Result<()> {
+    verdicts(out, &plan, 6, 8, lift, girth)
 }
 
 // The verdicts with P lowered.
-fn with_less(plan: [i16; 48]) {
-    lowered(&plan, 6, 8);
+fn with_less(out: Stdout, plan: [i16; 48]) -> io::Result<()> {
+    lowered(out, &plan, 6, 8)
 }
 
 // Judges a labeling at its girth and at the largest target, then with P lowered; M = `lift`.
-fn labeling(girth: usize, lift: usize, rows: [[i16; 8]; 6]) {
+fn labeling(out: Stdout, girth: usize, lift: usize, rows: [[i16; 8]; 6]) -> io::Result<()> {
     let mut plan = [0i16; 48];
     put_rows(rows, &mut plan);
-    number(b", M = ", lift);
-    say(b": ");
-    of_six(plan, lift, girth);
-    with_less(plan);
-    say(b"\n");
+    number(out, b", M = ", lift)?;
+    say(out, b": ")?;
+    of_six(out, plan, lift, girth)?;
+    with_less(out, plan)?;
+    say(out, b"\n")
 }
 
-pub fn table_two() {
-    say(b"001 table II");
-    labeling(8, 21, II_M21);
-    say(b"001 table II");
-    labeling(10, 20, II_M20);
+pub fn table_two(out: Stdout) -> io::Result<()> {
+    say(out, b"001 table II")?;
+    labeling(out, 8, 21, II_M21)?;
+    say(out, b"001 table II")?;
+    labeling(out, 10, 20, II_M20)
 }
 
-pub fn girth_fourteen() {
-    say(b"001 printed with girth 14");
-    labeling(10, 264, G14_M264);
+pub fn girth_fourteen(out: Stdout) -> io::Result<()> {
+    say(out, b"001 printed with girth 14")?;
+    labeling(out, 10, 264, G14_M264)
 }

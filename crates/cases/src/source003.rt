@@ -7,6 +7,8 @@ use crate::say::{number, refused, say};
 use encoding::Encoding;
 use exponent::Shape;
 use peeling::Filling;
+use std::io;
+use std::io::Stdout;
 use syndrome::Syndrome;
 
 // A voltage as an entry.
@@ -165,57 +167,77 @@ pub fn differing(a: &[u8], b: &[u8]) -> usize {
 }
 
 // A frame's ones, its checksum, and what the frame check says.
-fn described(plan: &[i16], s: Shape, word: &[u8]) {
-    number(b", ", count(word, 1));
-    number(b" ones, checksum ", checksum(word));
-    say(b", ");
+fn described(out: Stdout, plan: &[i16], s: Shape, word: &[u8]) -> io::Result<()> {
+    number(out, b", ", count(word, 1))?;
+    number(out, b" ones, checksum ", checksum(word))?;
+    say(out, b", ")?;
     match syndrome::check(plan, s.rows, s.cols, s.lift, word) {
-        Syndrome::Even => say(b"all checks even"),
-        Syndrome::Odd(c) => number(b"odd check ", c),
-        Syndrome::Refused(r) => refused(r),
+        Syndrome::Even => say(out, b"all checks even"),
+        Syndrome::Odd(c) => number(out, b"odd check ", c),
+        Syndrome::Refused(r) => refused(out, r),
     }
 }
 
 // Every 23rd bit lost and filled again; a byte that is still lost differs from the frame too.
-fn lost_and_filled(plan: &[i16], s: Shape, word: &[u8], lost: &mut [u8]) {
+fn lost_and_filled(
+    out: Stdout,
+    plan: &[i16],
+    s: Shape,
+    word: &[u8],
+    lost: &mut [u8],
+) -> io::Result<()> {
     put_received(word, 23, 2, lost);
-    say(b"; every 23rd bit lost: ");
+    say(out, b"; every 23rd bit lost: ")?;
     match peeling::fill(plan, s.rows, s.cols, s.lift, lost) {
         Filling::Filled { filled, left } => {
-            number(b"filled ", filled);
-            number(b", left ", left);
-            number(b", ", differing(word, lost));
-            say(b" bytes differ");
+            number(out, b"filled ", filled)?;
+            number(out, b", left ", left)?;
+            number(out, b", ", differing(word, lost))?;
+            say(out, b" bytes differ")
         }
-        Filling::Refused(r) => refused(r),
+        Filling::Refused(r) => refused(out, r),
     }
 }
 
 // Encodes in a word of 7s, and writes what came of it.
-fn large(plan: &[i16], s: Shape, info: &[u8], word: &mut [u8], lost: &mut [u8]) {
-    number(b"frame, 003 formula (5), ", s.rows);
-    number(b" x ", s.cols);
-    number(b", P = ", s.lift);
-    say(b": ");
+fn large(
+    out: Stdout,
+    plan: &[i16],
+    s: Shape,
+    info: &[u8],
+    word: &mut [u8],
+    lost: &mut [u8],
+) -> io::Result<()> {
+    number(out, b"frame, 003 formula (5), ", s.rows)?;
+    number(out, b" x ", s.cols)?;
+    number(out, b", P = ", s.lift)?;
+    say(out, b": ")?;
     match encoding::encode(plan, s.rows, s.cols, s.lift, info, word) {
-        Encoding::Encoded => say(b"encoded"),
-        Encoding::Refused(r) => refused(r),
+        Encoding::Encoded => say(out, b"encoded")?,
+        Encoding::Refused(r) => refused(out, r)?,
     }
-    described(plan, s, word);
-    lost_and_filled(plan, s, word, lost);
-    say(b"\n");
+    described(out, plan, s, word)?;
+    lost_and_filled(out, plan, s, word, lost)?;
+    say(out, b"\n")
 }
 
 // Encodes for a plan and data bits by the rule.
-fn ruled(s: Shape, plan: &mut [i16], info: &mut [u8], word: &mut [u8], lost: &mut [u8])
+fn ruled(
+    out: Stdout,
+    s: Shape,
+    plan: &mut [i16],
+    info: &mut [u8],
+    word: &mut [u8],
+    lost: &mut [u8],
+) -> io::Result<()>
     requires { (length plan.old ≤ 1000) × (length info.old ≤ 65536) × (s.lift ≤ 4096) }
 {
     put_plan(s, plan);
     put_data(info);
-    large(plan, s, info, word, lost);
+    large(out, plan, s, info, word, lost)
 }
 
-pub fn eight_columns() {
+pub fn eight_columns(out: Stdout) -> io::Result<()> {
     let s = Shape {
         rows: 4,
         cols: 8,
@@ -225,11 +247,11 @@ pub fn eight_columns() {
     let mut info = [0u8; 108];
     let mut word = [7u8; 216];
     let mut lost = [0u8; 216];
-    ruled(s, &mut plan, &mut info, &mut word, &mut lost);
+    ruled(out, s, &mut plan, &mut info, &mut word, &mut lost)
 }
 
 // The size of the codes of 802.16 that source 003 compares with.
-pub fn twelve_rows() {
+pub fn twelve_rows(out: Stdout) -> io::Result<()> {
     let s = Shape {
         rows: 12,
         cols: 24,
@@ -239,10 +261,10 @@ pub fn twelve_rows() {
     let mut info = [0u8; 1152];
     let mut word = [7u8; 2304];
     let mut lost = [0u8; 2304];
-    ruled(s, &mut plan, &mut info, &mut word, &mut lost);
+    ruled(out, s, &mut plan, &mut info, &mut word, &mut lost)
 }
 
-pub fn six_rows() {
+pub fn six_rows(out: Stdout) -> io::Result<()> {
     let s = Shape {
         rows: 6,
         cols: 24,
@@ -252,11 +274,11 @@ pub fn six_rows() {
     let mut info = [0u8; 1728];
     let mut word = [7u8; 2304];
     let mut lost = [0u8; 2304];
-    ruled(s, &mut plan, &mut info, &mut word, &mut lost);
+    ruled(out, s, &mut plan, &mut info, &mut word, &mut lost)
 }
 
 // The most bits, at the largest lift.
-pub fn most_bits() {
+pub fn most_bits(out: Stdout) -> io::Result<()> {
     let s = Shape {
         rows: 3,
         cols: 16,
@@ -266,5 +288,5 @@ pub fn most_bits() {
     let mut info = [0u8; 53248];
     let mut word = [7u8; 65536];
     let mut lost = [0u8; 65536];
-    ruled(s, &mut plan, &mut info, &mut word, &mut lost);
+    ruled(out, s, &mut plan, &mut info, &mut word, &mut lost)
 }

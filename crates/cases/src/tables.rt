@@ -3,6 +3,8 @@
 use crate::say::{built, number, refused, say, verdicts};
 use crate::text::same_text;
 use crate::weights_of::bounds;
+use std::io;
+use std::io::Stdout;
 use table::Built;
 
 fn supply(cyclic: bool, order: usize, square: &mut [i16]) {
@@ -15,6 +17,7 @@ fn supply(cyclic: bool, order: usize, square: &mut [i16]) {
 
 // Builds the plan of a supplied table in a lent place, and judges it at 12 and at the largest target; its weights are all alike.
 fn build(
+    out: Stdout,
     cyclic: bool,
     order: usize,
     lift: usize,
@@ -23,34 +26,35 @@ fn build(
     plan: &mut [i16],
     byrow: &mut [u16],
     bycol: &mut [u16],
-) {
+) -> io::Result<()> {
     if cyclic {
-        number(b"cyclic ", order);
+        number(out, b"cyclic ", order)?;
     } else {
-        number(b"array ", order);
+        number(out, b"array ", order)?;
     }
-    number(b", P = ", lift);
-    say(b": ");
+    number(out, b", P = ", lift)?;
+    say(out, b": ")?;
     supply(cyclic, order, square);
     match table::build(order, lift, square, mask, plan, byrow, bycol) {
-        Built::Refused(r) => refused(r),
+        Built::Refused(r) => refused(out, r)?,
         Built::Built { rows, cols } => {
-            built(plan, rows, cols, lift, 12);
-            bounds(b", row weights ", byrow);
-            bounds(b", column weights ", bycol);
+            built(out, plan, rows, cols, lift, 12)?;
+            bounds(out, b", row weights ", byrow)?;
+            bounds(out, b", column weights ", bycol)?;
         }
     }
-    say(b"\n");
+    say(out, b"\n")
 }
 
 // Order 6, and 004's example 3.
-pub fn order_six() {
+pub fn order_six(out: Stdout) -> io::Result<()> {
     let mut square = [0i16; 36];
     let mut plan = [0i16; 23328];
     let mut byrow = [0u16; 108];
     let mut bycol = [0u16; 216];
     let mask = [1u8; 36];
     build(
+        out,
         true,
         6,
         18,
@@ -59,8 +63,9 @@ pub fn order_six() {
         &mut plan,
         &mut byrow,
         &mut bycol,
-    );
+    )?;
     build(
+        out,
         true,
         6,
         19,
@@ -69,8 +74,9 @@ pub fn order_six() {
         &mut plan,
         &mut byrow,
         &mut bycol,
-    );
+    )?;
     build(
+        out,
         true,
         6,
         25,
@@ -79,17 +85,18 @@ pub fn order_six() {
         &mut plan,
         &mut byrow,
         &mut bycol,
-    );
+    )
 }
 
 // Order 7, and 004's example 1.
-pub fn order_seven() {
+pub fn order_seven(out: Stdout) -> io::Result<()> {
     let mut square = [0i16; 49];
     let mut plan = [0i16; 50421];
     let mut byrow = [0u16; 147];
     let mut bycol = [0u16; 343];
     let mask = [1u8; 49];
     build(
+        out,
         false,
         7,
         7,
@@ -98,8 +105,9 @@ pub fn order_seven() {
         &mut plan,
         &mut byrow,
         &mut bycol,
-    );
+    )?;
     build(
+        out,
         false,
         7,
         10,
@@ -108,8 +116,9 @@ pub fn order_seven() {
         &mut plan,
         &mut byrow,
         &mut bycol,
-    );
+    )?;
     build(
+        out,
         false,
         7,
         11,
@@ -118,7 +127,7 @@ pub fn order_seven() {
         &mut plan,
         &mut byrow,
         &mut bycol,
-    );
+    )
 }
 
 // The mask with 0 on the diagonal.
@@ -135,13 +144,14 @@ fn diagonal_mask() -> [u8; 49] {
 }
 
 // 004's example 2.
-pub fn diagonal() {
+pub fn diagonal(out: Stdout) -> io::Result<()> {
     let mut square = [0i16; 49];
     let mut plan = [0i16; 31752];
     let mut byrow = [0u16; 126];
     let mut bycol = [0u16; 252];
     let mask = diagonal_mask();
     build(
+        out,
         true,
         7,
         7,
@@ -150,12 +160,12 @@ pub fn diagonal() {
         &mut plan,
         &mut byrow,
         &mut bycol,
-    );
+    )
 }
 
 // The same with the table's voltages as they are printed, up to 15: a plan that is built at 100 holds them so. It is judged at
 // P = 7, and its text compared with the plan of their remainders.
-pub fn printed() {
+pub fn printed(out: Stdout) -> io::Result<()> {
     let mut square = [0i16; 49];
     let mut plan = [0i16; 31752];
     let mut reduced = [0i16; 31752];
@@ -165,9 +175,9 @@ pub fn printed() {
     table::cyclic(7, &mut square);
     table::build(7, 100, &square, &mask, &mut plan, &mut byrow, &mut bycol);
     table::build(7, 7, &square, &mask, &mut reduced, &mut byrow, &mut bycol);
-    say(b"cyclic 7 as printed, P = 7: ");
-    verdicts(&plan, 126, 252, 7, 12);
-    say(b", ");
-    same_text(&plan, &reduced, 126, 252, 7, &byrow, &bycol);
-    say(b"\n");
+    say(out, b"cyclic 7 as printed, P = 7: ")?;
+    verdicts(out, &plan, 126, 252, 7, 12)?;
+    say(out, b", ")?;
+    same_text(out, &plan, &reduced, 126, 252, 7, &byrow, &bycol)?;
+    say(out, b"\n")
 }

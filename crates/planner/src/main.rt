@@ -2,13 +2,31 @@
 // What it prints is the contract of `planning::plan_text`.
 #![tactic(auto)]
 
-use libc::{STDIN_FILENO, STDOUT_FILENO};
+ghost use Rattle.std.specs.Prelude.{◌≤◌, length, IfOk};
 
-fn main() {
+use std::io;
+use std::io::{Read, Stdin};
+
+// Reads until the list is full or the input ends, and returns how many bytes it put at the list's start.
+fn read_full(mut input: Stdin, list: &mut [u8]) -> io::Result<usize>
+    ensures { IfOk result (λ n. n ≤ length list.new) }
+{
+    let mut n = 0;
+    while n < list.len() {
+        let count = input.read(&mut list[n..])?;
+        if count == 0 {
+            break;
+        }
+        n += count;
+    }
+    Ok(n)
+}
+
+fn main(rt: HostRuntime) -> io::Result<()> {
     let mut input = [0u8; 256];
     let mut plan = [0i16; 32768];
     let mut text = [0u8; 65536];
-    let n = io::read_full(STDIN_FILENO, &mut input);
+    let n = read_full(rt.stdin(), &mut input)?;
     let end = planning::plan_text(&input[..n], &mut plan, &mut text);
-    io::write_all(STDOUT_FILENO, &text[..end]);
+    rt.write_all(&text[..end])
 }

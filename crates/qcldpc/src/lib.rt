@@ -1,4 +1,4 @@
-// The C interface of the library, for Rust and C: `rt staticlib qcldpc`.
+// The C interface of the library, for Rust and C: `rt lib` in this folder makes out/libqcldpc.a.
 // Each function returns 0, or the number of a refusal (documents 01 and 02), and puts values into `out` (specs/Door.antt).
 #![tactic(auto)]
 

@@ -12,7 +12,7 @@ use lib.Bits.{bit_and, bit_or, bit_xor, and_block, or_block, xor_block, and_lt, 
 use lib.Count.{ones, ones_cat}
 use Rattle.graph.specs.Count.{one, count}
 use Rattle.graph.specs.Filling.{erasures}
-use Rattle.graph.proofs.Cases.{all, all_at}
+use Rattle.graph.proofs.Cases.{all_at}
 use Rattle.syndrome.specs.Lanes.{bytes_of}
 
 -- the same byte n times

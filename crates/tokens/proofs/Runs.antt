@@ -8,7 +8,7 @@ use native.Mathlib.Omega.{arith}
 use native.Mathlib.Numerals.{add-one}
 use lib.Dec.{eqb}
 use lib.ListN.{length, get_or, take, drop, drop_of_length-le, length-drop, get_or-eq_default}
-use lib.Seq.{drop-cons, take-suc, take-length, length-take-le}
+use lib.Seq.{drop-cons, take-suc, length-take-le}
 use borrow.Author.Tests.{eqb-true, eq-eqb, ne_eqb}
 use Rattle.graph.proofs.Decide.{by_bool, both_ways}
 use Rattle.decimal.specs.Decimal.{digit, decimal}

@@ -1,0 +1,28 @@
+-- `square::supply::put_table` meets its contract. The loop's invariant: the first n entries are written.
+-- The measure is what is left of the list. Assumes nothing.
+use Prim.Native.Nat.{◌*◌}
+use mathlib.Core.Path.{◌≡◌, sym, ap, ◌∙◌}
+use mathlib.Core.List.{[], ◌∷◌}
+use native.Mathlib.Omega.{arith}
+use lib.IntN.{pos}
+use mir.Syntax.{w16}
+use mir.Val.{to_z, of_z}
+use borrow.Author.Rules.{rules}
+use Rattle.writing.proofs.Wrote.{wrote_one, wrote_all}
+use Rattle.square.proofs.Each.{length_ones, supplied_are}
+use Rattle.square.proofs.Runs.{turn, done}
+use Rattle.square.proofs.supply.put_table.Invariants.{number}
+use Rattle.square.proofs.supply.put_table.Goals as goal
+
+pub loop-n-preserved : goal.loop-n-preserved
+loop-n-preserved c = let a = c.args in
+    let e : to_z w16 (of_z w16 c.make.result) ≡ c.make.result = search rules in (
+      omega (arith, c.loop-n-test.true),
+      turn (λ k. number a.family a.order k ∷ []) c.loop-n.invariant.1 (wrote_one _ _ _ _ (e ∙ c.make.ensures ∙ ap pos c.supplied_at-e.ensures)),
+    )
+
+pub returns : goal.returns
+returns c = let f = number c.args.family c.args.order in
+    wrote_all _ _ _ _ (c.requires.2 ∙ sym (length_ones (c.args.order * c.args.order) f))
+    (done (λ k. f k ∷ []) c.loop-n.invariant.1 (c.args.order * c.args.order) c.loop-n.invariant.0 c.loop-n-test.false)
+    ∙ sym (supplied_are c.args.order c.requires.0 c.args.family)
