@@ -6,7 +6,6 @@ use mathlib.Core.Bool.{Bool, true, false, cond}
 use mathlib.Core.List.{List, [], ◌∷◌}
 use mathlib.Core.Option.{some}
 use native.Mathlib.Omega.{arith}
-use native.Mathlib.Nat.{sub-zero}
 use native.Mathlib.Numerals.{add-one}
 use borrow.Author.Tests.{eq-eqb, ne_eqb}
 use lib.IntN.{ℤ}
@@ -38,12 +37,6 @@ few_roots {plan} {s} h n = go (odd n)
 -- the ways from a root, by the parity of the round
 
 module _ (plan : List ℤ) (s : Shape) (n k : ℕ) where
-  pub check_root : n % 2 ≡ 1 → k < roots (blocks_of plan s) n → k < s.rows
-  check_root e h = let t = eq-eqb (n % 2) 1 e in rw t at h
-
-  pub bit_root : (n % 2 ≡ 1 → ⊥) → k < roots (blocks_of plan s) n → k < s.cols
-  bit_root e h = let t = ne_eqb (n % 2) 1 e in rw t at h
-
   module _ {stamp : ℕ} {before after : List ℕ} {r : Found} where
     pub check_ran : n % 2 ≡ 1 → Ran stamp (from_check (blocks_of plan s) (corner k 0) (from_bit (blocks_of plan s) (corner k 0) (n / 2)) (root_check (blocks_of plan s) k)) before r after → Ran stamp (ways (blocks_of plan s) n k) before r after
     unfolding ways
@@ -119,9 +112,6 @@ module _ (plan : List ℤ) (s : Shape) (some_lift : 0 < s.lift) (n k : ℕ) (roo
 module _ (f : ℕ → Result) (n : ℕ) where
   abbrev pub RootsLeft : ℕ → Type 0
   RootsLeft k = first_of f n 0 ≡ first_of f (n - k) k
-
-  pub roots_start : RootsLeft 0
-  roots_start = ap (λ (k : ℕ). first_of f k 0) (sym (sub-zero n))
 
   turn : (k : ℕ) → k < n → RootsLeft k → first_of f n 0 ≡ or_else (f k) (first_of f (n - (k + 1)) (k + 1))
   unfolding first_of

@@ -93,9 +93,6 @@ module _ (B : Blocks) (p : Position) (stamp j₀ : ℕ) (seen₀ : List ℕ) whe
   abbrev pub EndsLeft : ℕ → List ℕ → Type 0
   EndsLeft = Left stamp (ends_from B p j₀) seen₀ (to_column B p) (arriving B p) B.cols
 
-  pub ends_left : EndsLeft j₀ seen₀
-  ends_left = left_start stamp (to_column B p) (arriving B p) B.cols j₀ seen₀
-
 module _ (B : Blocks) (k : Corner) (p : Position) {stamp : ℕ} {before after : List ℕ} {r : Found} where
   pub ends_ran : Ran stamp (ends_from B p k.col) before r after → Ran stamp (from_check B k (from_bit B k 0) p) before r after
   unfolding from_bit
