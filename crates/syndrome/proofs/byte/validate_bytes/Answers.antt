@@ -22,9 +22,9 @@ unfolding byte_rules
 returns-then-place-word c =
     -- the first k rules are passed over
     let Past : ℕ → Type 0 = λ k. let rules = byte_rules c.args.n c.args.word.now in lowest rules ≡ lowest (drop k rules) in
-    let past-1 : Past 1 = lowest_next _ _ _ (ap not (eq-eqb _ _ c.if-word-n.false)) in
+    let past_1 : Past 1 = lowest_next _ _ _ (ap not (eq-eqb _ _ c.if-word-n.false)) in
     let same = c.first-place.ensures in
-    rw same (sym (ap validity (past-1 ∙ lowest_here _ _ _ (rw (← same) (lt-ltb _ _ c.if-place-word.true)))))
+    rw same (sym (ap validity (past_1 ∙ lowest_here _ _ _ (rw (← same) (lt-ltb _ _ c.if-place-word.true)))))
 
 -- a word of n bytes, none of them refused, passes both rules
 past_2 : (n : ℕ) (word : List ℕ) → length word ≡ n → length word ≤ first_place (λ x. sought false (symbol_of x)) word → lowest (byte_rules n word) ≡ lowest (drop 2 (byte_rules n word))
