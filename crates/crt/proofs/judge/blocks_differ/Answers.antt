@@ -11,7 +11,6 @@ loop-place-init c = (omega arith, any_zero _)
 
 pub returns-then-one-other : goal.returns-then-one-other
 returns-then-one-other c =
-    -- the loop's test, from behind that of the blocks
     -- the code's two tests are those of the entries
     let tested : (let a = c.args in
     not (beq (filled (entry_at a.first.now a.p c.loop-place.place)) (filled (entry_at a.second.now a.q c.loop-place.place)))
@@ -20,7 +19,6 @@ returns-then-one-other c =
 
 pub loop-place-preserved : goal.loop-place-preserved
 loop-place-preserved c =
-    -- the loop's test, from behind that of the blocks
     -- the code's two tests are those of the entries
     let tested : (let a = c.args in
     not (beq (filled (entry_at a.first.now a.p c.loop-place.place)) (filled (entry_at a.second.now a.q c.loop-place.place)))

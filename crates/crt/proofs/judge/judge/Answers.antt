@@ -16,8 +16,8 @@ judge_valid-requires c =
     let one : Sized = shaped c.args.first.now c.args.s in
     let two : Sized = shaped c.args.second.now c.args.t in
     -- none of 1 to 6
-    let found-valid : (both_refusal one two ≡ none) = valid_none _ (sym c.judge_both.ensures ∙ c.in-Valid.is) in
-    both_formed one two found-valid
+    let found_valid : (both_refusal one two ≡ none) = valid_none _ (sym c.judge_both.ensures ∙ c.in-Valid.is) in
+    both_formed one two found_valid
 
 pub returns-in-Valid : goal.returns-in-Valid
 unfolding join_refusal
@@ -26,8 +26,8 @@ returns-in-Valid c =
     let one : Sized = shaped c.args.first.now c.args.s in
     let two : Sized = shaped c.args.second.now c.args.t in
     -- none of 1 to 6
-    let found-valid : (both_refusal one two ≡ none) = valid_none _ (sym c.judge_both.ensures ∙ c.in-Valid.is) in
-    none_before _ _ found-valid c.judge_valid.ensures
+    let found_valid : (both_refusal one two ≡ none) = valid_none _ (sym c.judge_both.ensures ∙ c.in-Valid.is) in
+    none_before _ _ found_valid c.judge_valid.ensures
 
 pub returns-in-Refused : goal.returns-in-Refused
 unfolding join_refusal
