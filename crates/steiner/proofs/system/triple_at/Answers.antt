@@ -10,52 +10,31 @@ use Rattle.steiner.proofs.system.triple_at.Goals as goal
 
 pub overflow_mul-from : goal.overflow_mul-from
 overflow_mul-from c =
-    -- the place of the triple, and room for three numbers
-    let within : c.start.result + 3 * c.args.j + 3 < 412 = let s = small c.args.order c.requires.0 in
-    omega (arith, c.start.ensures, s.listed, c.requires.1) in
-    omega (arith, within)
+    omega (arith, c.start.ensures, (small c.args.order c.requires.0).listed, c.requires.1)
 
 pub overflow_add-from : goal.overflow_add-from
 overflow_add-from c =
-    -- the place of the triple, and room for three numbers
-    let within : c.start.result + 3 * c.args.j + 3 < 412 = let s = small c.args.order c.requires.0 in
-    omega (arith, c.start.ensures, s.listed, c.requires.1) in
-    omega (arith, within)
+    omega (arith, c.start.ensures, (small c.args.order c.requires.0).listed, c.requires.1)
 
 pub point-requires : goal.point-requires
 point-requires c =
-    -- the place of the triple, and room for three numbers
-    let within : c.start.result + 3 * c.args.j + 3 < 412 = let s = small c.args.order c.requires.0 in
-    omega (arith, c.start.ensures, s.listed, c.requires.1) in
-    omega (arith, within)
+    omega (arith, c.start.ensures, (small c.args.order c.requires.0).listed, c.requires.1)
 
 pub overflow_add-from-2 : goal.overflow_add-from-2
 overflow_add-from-2 c =
-    -- the place of the triple, and room for three numbers
-    let within : c.start.result + 3 * c.args.j + 3 < 412 = let s = small c.args.order c.requires.0 in
-    omega (arith, c.start.ensures, s.listed, c.requires.1) in
-    omega (arith, within)
+    omega (arith, c.start.ensures, (small c.args.order c.requires.0).listed, c.requires.1)
 
 pub point-requires-2 : goal.point-requires-2
 point-requires-2 c =
-    -- the place of the triple, and room for three numbers
-    let within : c.start.result + 3 * c.args.j + 3 < 412 = let s = small c.args.order c.requires.0 in
-    omega (arith, c.start.ensures, s.listed, c.requires.1) in
-    omega (arith, within)
+    omega (arith, c.start.ensures, (small c.args.order c.requires.0).listed, c.requires.1)
 
 pub overflow_add-from-3 : goal.overflow_add-from-3
 overflow_add-from-3 c =
-    -- the place of the triple, and room for three numbers
-    let within : c.start.result + 3 * c.args.j + 3 < 412 = let s = small c.args.order c.requires.0 in
-    omega (arith, c.start.ensures, s.listed, c.requires.1) in
-    omega (arith, within)
+    omega (arith, c.start.ensures, (small c.args.order c.requires.0).listed, c.requires.1)
 
 pub point-requires-3 : goal.point-requires-3
 point-requires-3 c =
-    -- the place of the triple, and room for three numbers
-    let within : c.start.result + 3 * c.args.j + 3 < 412 = let s = small c.args.order c.requires.0 in
-    omega (arith, c.start.ensures, s.listed, c.requires.1) in
-    omega (arith, within)
+    omega (arith, c.start.ensures, (small c.args.order c.requires.0).listed, c.requires.1)
 
 pub returns : goal.returns
 unfolding triple_at
