@@ -7,11 +7,11 @@ use Rattle.square.proofs.Weights.{common_low, common_rows, common_columns}
 use Rattle.square.proofs.mask.common.Goals as goal
 
 pub returns-then-weight-lt4 : goal.returns-then-weight-lt4
-returns-then-weight-lt4 c = common_low c.args.order c.args.mask.now c.args.weight c.requires.3 (omega (arith, c.if-weight-lt4.true))
+returns-then-weight-lt4 c = common_low _ _ _ c.requires.3 (omega arith)
 
 pub returns-then-lines_of-order : goal.returns-then-lines_of-order
 returns-then-lines_of-order c = common_rows c.args.order c.args.mask.now c.args.weight c.requires.3 (λ e. c.if-lines_of-order.true (c.lines_of.ensures ∙ e))
 
 pub returns : goal.returns
 returns c = ap (λ (x : ℕ). eqb x c.args.order) c.lines_of-2.ensures
-    ∙ common_columns c.args.order c.args.mask.now c.args.weight c.requires.3 c.if-weight-lt4.false (sym c.lines_of.ensures ∙ c.if-lines_of-order.false)
+    ∙ common_columns c.args.order c.args.mask.now c.args.weight c.requires.3 (omega arith) (sym c.lines_of.ensures ∙ c.if-lines_of-order.false)
