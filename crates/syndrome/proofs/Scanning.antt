@@ -21,6 +21,7 @@ use Rattle.exponent.specs.declared.Shape.{Shape}
 use Rattle.exponent.specs.Plan.{block_at, filled}
 use Rattle.exponent.specs.Tanner.{tanner}
 use Rattle.exponent.specs.Neighbours.{gather, bit_in}
+use Rattle.exponent.proofs.Numbers.{block_low}
 use Rattle.exponent.proofs.Blocks.{gather_last, gather_skip}
 use Rattle.exponent.proofs.Tanner.{bits_of_check}
 use Rattle.index.specs.Index.{NextFrom, filled_at}
@@ -126,3 +127,11 @@ module _ (plan : List ℤ) (shape : Shape) (word : List ℕ) (s : Scan) where
 -- a word that keeps its length may take the place of another
 pub ready_same : {plan : List ℤ} {shape : Shape} {along p q : List ℕ} → Ready plan shape along p → length q ≡ length p → Ready plan shape along q
 ready_same r e = record { formed = r.formed; indexed = r.indexed; whole = e ∙ r.whole }
+
+-- the row of a check, and what the index says of it
+pub row_low : {plan : List ℤ} {shape : Shape} {along word : List ℕ} (c : ℕ) → Ready plan shape along word → c < shape.rows * shape.lift → c / shape.lift < shape.rows
+row_low c r h = block_low _ r.formed.some_lift _ _ h
+
+pub next_filled : {plan : List ℤ} {shape : Shape} {along word : List ℕ} {i j col : ℕ} → Ready plan shape along word → i < shape.rows → j < shape.cols
+    → col ≡ get_or along (i * shape.cols + j) 0 → NextFrom (filled_at plan shape i) j shape.cols col
+next_filled r h k e = subst (NextFrom _ _ _) (sym e) (r.indexed.next _ _ h k)
