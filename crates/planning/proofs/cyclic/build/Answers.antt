@@ -58,7 +58,7 @@ returns-clause-place c =
     let a = c.args in
     let zeros = replicate 49 (pos 0) in
     let e = c.build_with.ensures in (ap (λ (p : List ℤ). p ++ drop c.least-room.result a.plan.now) e.plan
-            ∙ lent_plan a.q a.plan.now zeros c.side-n.result c.least-room.result refl c.side-n.ensures c.least-room.ensures a.byrow.now a.bycol.now own-lists)
+    ∙ lent_plan a.q a.plan.now zeros c.side-n.result c.least-room.result refl c.side-n.ensures c.least-room.ensures a.byrow.now a.bycol.now own-lists)
 
 pub returns-clause-rows : goal.returns-clause-rows
 returns-clause-rows c =

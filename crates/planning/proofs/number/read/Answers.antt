@@ -1,6 +1,5 @@
 -- `planning::number::read` meets its contract. The loop's invariant: the digits read and the bytes left give the token's number.
 -- The measure is how many bytes are left. Assumes nothing.
-use Prim.Native.Nat.{◌-◌}
 use mathlib.Core.Path.{sym, ◌∙◌}
 use native.Mathlib.Omega.{arith}
 use Rattle.planning.proofs.Tokens.{number_start, wrong_at, digit_at, large_end, small_end}
