@@ -1,0 +1,6 @@
+-- The number is a remainder by 65,521.
+use Rattle.std.proofs.Common.{◌<◌}
+use Rattle.cases.proofs.source003.checksum.Given as goal
+
+abbrev pub invariant-loop-k : goal.invariant-loop-k
+invariant-loop-k l = l.h < 65521
