@@ -17,7 +17,7 @@ use Rattle.graph.specs.Erasure.{total, parity, any, only, peel, peels, largest}
 use Rattle.graph.specs.Filling.{forced, fill_round, fill_rounds, filled_word, odd_check, clash, filled_count, left_count}
 use Rattle.graph.proofs.Cycles.{one_girth}
 use Rattle.exponent.specs.declared.block.Block.TheVariants.{Shift}
-use Rattle.exponent.specs.Plan.{shifts, entry_at, block_at}
+use Rattle.exponent.specs.Plan.{entry_at, block_at}
 use Rattle.exponent.specs.Limits.{outside, plan_rules}
 use Rattle.exponent.specs.Tanner.{tanner}
 use Rattle.exponent.proofs.Rules.{inside, accepted}

@@ -1,7 +1,6 @@
 -- Slip 7: after any list of changes from a built plan the weights are the counts. Assumes nothing.
 use Prim.Native.Nat.{ℕ}
 use mathlib.Core.Path.{◌≡◌, refl, subst₂}
-use mathlib.Core.Bool.{true}
 use mathlib.Core.List.{List}
 use mathlib.Core.Option.{Option, none, some}
 use native.Mathlib.Omega.{arith}
@@ -10,11 +9,10 @@ use Rattle.refusal.specs.declared.Refusal.{Refusal}
 use Rattle.refusal.specs.Lent.{lent}
 use Rattle.exponent.specs.declared.Shape.{Shape}
 use Rattle.exponent.specs.Limits.{WellFormed}
-use Rattle.weights.specs.Weights.{shape_of, Held, with_weights, right, room_of}
+use Rattle.weights.specs.Weights.{shape_of, Held, with_weights, room_of}
 use Rattle.weights.specs.Change.{Call}
-use Rattle.weights.specs.Changes.{after_all, Counted}
-use Rattle.weights.proofs.Weights.{right_exactly}
-use Rattle.weights.proofs.Changes.{all_true, still_weighed, never_25, only_there}
+use Rattle.weights.specs.Changes.{after_all}
+use Rattle.weights.proofs.Changes.{all_true}
 use Rattle.square.specs.Mask.{weight}
 use Rattle.grid.specs.Plan.{plan_rows, plan_cols}
 use Rattle.table.specs.declared.Built.TheVariants.{Built}
@@ -23,19 +21,8 @@ use Rattle.table.proofs.Plans.{built_is_good}
 use Rattle.steiner.specs.System.{cols}
 use Rattle.steiner.specs.Build as steiner
 use Rattle.steiner.proofs.Plans.{built_plan_law}
-use Rattle.alist.proofs.Lists.{write_not_25, compare_not_25}
 use Rattle.promises.specs.Changes.{StillCounted, ChangesCounted}
-
-still : (s : Shape) (h : Held) → Counted s h → StillCounted s h
-still s h t =
-    let found : (lift : ℕ) → right h.plan (shape_of s.rows s.cols lift) h.rows h.cols ≡ true = λ lift. (right_exactly h.plan (shape_of s.rows s.cols lift) h.rows h.cols).1 (still_weighed s h t (shape_of s.rows s.cols lift) refl refl) in
-    record {
-      counted = t;
-      changed = never_25 s h t;
-      written = λ lift place. write_not_25 h.plan s.rows s.cols lift h.rows h.cols (found lift) place;
-      compared = λ lift text. compare_not_25 h.plan s.rows s.cols lift h.rows h.cols (found lift) text;
-      only_there = λ c. only_there c h;
-    }
+use Rattle.promises.proofs.KeptCounts.{still}
 
 -- from a well-formed plan with its own weights
 from_built : (plan : List ℤ) (s : Shape) → WellFormed plan s.rows s.cols s.lift → (calls : List Call) → StillCounted s (after_all calls (with_weights plan s))

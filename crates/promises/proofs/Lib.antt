@@ -23,6 +23,7 @@ pub mod SameJoins
 pub mod SameEncodes
 pub mod Remainders
 pub mod Preview
+pub mod KeptCounts
 pub mod Changes
 pub mod Pairs
 pub mod Joins
