@@ -9,7 +9,6 @@ use lib.IntN.{ℤ}
 use lib.ListN.{length, length-append, length-map}
 use Rattle.graph.specs.Count.{below, Mem}
 use Rattle.graph.specs.Graph.{Bipartite, bits_of, checks_of}
-use Rattle.graph.proofs.Decide.{by_le}
 use Rattle.graph.proofs.Lists.{mem_either, each_image}
 use Rattle.graph.proofs.Count.{mem_select, length_map_below, length_range}
 use Rattle.graph.proofs.Neighbours.{mem_below}
@@ -17,7 +16,7 @@ use Rattle.exponent.specs.declared.Shape.{Shape}
 use Rattle.exponent.specs.Limits.{WellFormed}
 use Rattle.exponent.specs.Tanner.{graph_of}
 use Rattle.decimal.specs.Decimal.{decimal}
-use Rattle.decimal.proofs.Digits.{length_small, length_below, length_four}
+use Rattle.decimal.proofs.Digits.{length_under}
 use Rattle.lines.specs.declared.Layout.{Layout}
 use Rattle.weights.specs.declared.Side.{Side}
 use Rattle.weights.specs.declared.Side.TheVariants.{Bits, Checks}
@@ -44,16 +43,7 @@ numbers_of (line ∷ lines) = line ++ numbers_of lines
 -- Its text: six digits and a space for each number at most, and a line feed for each line.
 
 decimal_le : (n : ℕ) → n ≤ 786432 → length (decimal n) ≤ 6
-decimal_le n h = by_le 10000 n (λ g. omega (arith, length_four n (omega arith), two (n / 10000) (omega arith))) (λ g. omega (arith, four n g))
-  where
-    two : (m : ℕ) → m < 100 → length (decimal m) ≤ 2
-    two m g = by_le 10 m (λ h. omega (arith, (length_below m).0 (h, g))) (λ h. omega (arith, length_small m h))
-
-    four : (m : ℕ) → m < 10000 → length (decimal m) ≤ 4
-    four m g =
-        by_le 1000 m
-        (λ h. omega (arith, (length_below m).2 (h, g)))
-        (λ h. by_le 100 m (λ k. omega (arith, (length_below m).1 (k, h))) (λ k. omega (arith, two m k)))
+decimal_le n h = length_under 5 n (omega arith)
 
 item_le : (k n : ℕ) → n ≤ 786432 → length (item k n) ≤ 7
 unfolding item

@@ -1,22 +1,23 @@
 -- Laws of writing: the numbers of a line, the lines that are left, and the text in its place. Assumes nothing.
-use Prim.Native.Nat.{ℕ, zero, suc, ◌+◌, ◌≤◌, ◌<◌}
+use Rattle.std.specs.Prelude.{Ok, None}
+use Prim.Native.Nat.{ℕ, zero, suc, ◌+◌, ◌^◌, ◌<◌}
 use mathlib.Core.Path.{◌≡◌, refl, ap, ◌∙◌}
 use mathlib.Core.List.{List, [], ◌∷◌, ◌++◌}
-use mathlib.Core.Option.{none, some}
 use native.Mathlib.Omega.{arith}
 use native.Mathlib.Numerals.{add-one}
 use lib.Dec.{ltb}
 use lib.ListN.{length, drop}
-use lib.Seq.{sets, sets-eq}
+use lib.Seq.{sets-eq}
 use borrow.Author.Tests.{lt-ltb, le-ltb}
 use Rattle.refusal.specs.declared.Refusal.TheVariants.{TextPlace}
-use Rattle.refusal.specs.Lowest.{lowest, refuse}
-use Rattle.refusal.proofs.Lowest.{lowest_here, lowest_next}
+use Rattle.refusal.specs.Lowest.{lowest}
+use Rattle.refusal.proofs.Lowest.{lowest_next}
 use Rattle.writing.specs.Wrote.{Wrote}
+use Rattle.graph.proofs.Decide.{by_le}
+use Rattle.refusal.specs.Answer.{ok_unless}
+use Rattle.writing.proofs.Wrote.{Going, part_room, part_done, last_done, all_done}
 use Rattle.decimal.specs.Decimal.{decimal}
 use Rattle.lines.specs.Text.{item, line_from, text_of}
-use Rattle.alist.specs.declared.Written.{Written}
-use Rattle.alist.specs.declared.Written.TheVariants as answer
 use Rattle.alist.specs.Calls.{room_rules}
 use Rattle.alist.specs.Steps.{Put}
 
@@ -32,60 +33,59 @@ unfolding item
 item_more zero n h = absurd (h refl)
 item_more (suc k) n h = refl
 
-pub line_from_next : (k : ℕ) (rest vs : List ℕ) (v : ℕ) → rest ≡ v ∷ vs → line_from k rest ≡ item k v ++ line_from (k + 1) vs
+line_from_next : (k : ℕ) (rest vs : List ℕ) (v : ℕ) → rest ≡ v ∷ vs → line_from k rest ≡ item k v ++ line_from (k + 1) vs
 unfolding line_from
 line_from_next k rest vs v e = rw (e, add-one k)
 
-pub line_from_end : (k : ℕ) (rest : List ℕ) → rest ≡ [] → line_from k rest ≡ 10 ∷ []
+line_from_end : (k : ℕ) (rest : List ℕ) → rest ≡ [] → line_from k rest ≡ 10 ∷ []
 unfolding line_from
 line_from_end k rest e = rw e
 
--- The text of the lines that are left.
+-- a line on the way, whose numbers `rest` from the k-th on are still to be written: its next number, and the line feed at its end
+module _ {before whole text : List ℕ} {at p : ℕ} (k : ℕ) (rest : List ℕ) (g : Going before at whole (line_from k rest) p text) where
+  module _ (v : ℕ) (vs : List ℕ) (e : rest ≡ v ∷ vs) where
+    pub number_room : at + length whole < 2 ^ 64 → p + length (item k v) < 2 ^ 64
+    number_room h = part_room (item k v) (line_from (k + 1) vs) (line_from_next k rest vs v e) g (2 ^ 64) h
 
-pub text_next : (left later : List (List ℕ)) (line : List ℕ) → left ≡ line ∷ later → text_of left ≡ line_from 0 line ++ text_of later
-unfolding text_of
-text_next left later line e = rw e
+    pub number_done : {r : ℕ} {out : List ℕ} → Wrote text p (item k v) r out → Going before at whole (line_from (k + 1) vs) r out
+    number_done w = part_done (item k v) (line_from (k + 1) vs) (line_from_next k rest vs v e) g w
 
-pub text_end : (left : List (List ℕ)) → left ≡ [] → text_of left ≡ []
-unfolding text_of
-text_end left e = rw e
+  module _ (e : rest ≡ []) where
+    pub feed_room : at + length whole < 2 ^ 64 → p + 1 < 2 ^ 64
+    feed_room h = part_room (10 ∷ []) [] (line_from_end k rest e) g (2 ^ 64) h
 
--- The text in its place.
+    pub feed_done : {r : ℕ} {out : List ℕ} → Wrote text p (10 ∷ []) r out → Wrote before at whole r out
+    feed_done w = last_done (10 ∷ []) (line_from_end k rest e) g w
 
--- a place that has room for it
-pub put_roomy : (before t : List ℕ) → length t ≤ length before → (n r : ℕ) (out : List ℕ) → n ≡ length t → Wrote before 0 t r out → Put t before (answer.Written n) out
+-- The text of the lines that are left: its next line, and its end.
+
+module _ {before whole text : List ℕ} {at p : ℕ} (left : List (List ℕ)) (g : Going before at whole (text_of left) p text) where
+  module _ (line : List ℕ) (later : List (List ℕ)) (e : left ≡ line ∷ later) where
+    text_next : text_of left ≡ line_from 0 line ++ text_of later
+    unfolding text_of
+    text_next = rw e
+
+    pub line_room : at + length whole < 2 ^ 64 → p + length (line_from 0 line) < 2 ^ 64
+    line_room h = part_room (line_from 0 line) (text_of later) text_next g (2 ^ 64) h
+
+    pub line_done : {r : ℕ} {out : List ℕ} → Wrote text p (line_from 0 line) r out → Going before at whole (text_of later) r out
+    line_done w = part_done (line_from 0 line) (text_of later) text_next g w
+
+  pub lines_done : left ≡ [] → Wrote before at whole p text
+  unfolding text_of
+  lines_done e = all_done (rw e) g
+
+-- The text in its place, where that was judged to have room.
+
+pub put_roomed : (before t : List ℕ) → Ok tt ≡ ok_unless (lowest (room_rules t before)) → {r : ℕ} {out : List ℕ} → Wrote before 0 t r out → Put t before (Ok r) out
 unfolding lowest
-put_roomy before t h n r out q u =
-    let e : lowest (room_rules t before) ≡ none = room_found (length t) (length before) h in
+put_roomed before t h {r} {out} w =
+    by_le (length t) (length before)
+    (λ g.
+    let e : lowest (room_rules t before) ≡ None = lowest_next (ltb (length before) (length t)) (TextPlace (length t)) [] (le-ltb (length before) (length t) g) in
     let z : 0 + length t ≡ length t = omega arith in
     record {
-      answer = rw e (ap answer.Written q);
-      place = rw e (u.list ∙ sets-eq t before 0 (omega arith) ∙ ap (λ (k : ℕ). t ++ drop k before) z);
-    }
-  where
-    room_found : (n m : ℕ) → n ≤ m → lowest (refuse (TextPlace n) (ltb m n) ∷ []) ≡ none
-    room_found n m h = lowest_next (ltb m n) (TextPlace n) [] (le-ltb m n h)
-
-pub put_same : (t t' before : List ℕ) (r : Written) (after : List ℕ) → t ≡ t' → Put t before r after → Put t' before r after
-put_same t t' before r after e p = rw e at p
-
-sets_none : (i : ℕ) (xs : List ℕ) → ◌≡◌ {A = List ℕ} (sets [] i xs) []
-sets_none i [] = refl
-sets_none i (x ∷ xs) = sets_none (suc i) xs
-
--- after a run over no place, which told its length
-module _ (before t gone : List ℕ) (need : ℕ) (w : Wrote [] 0 t need gone) where
-  unchanged : gone ++ before ≡ before
-  unchanged = ap (λ (l : List ℕ). l ++ before) (w.list ∙ sets_none 0 t)
-
-  pub put_short : length (gone ++ before) < need → Put t before (answer.Refused (TextPlace need)) (gone ++ before)
-  put_short h =
-      let need-is : need ≡ length t = omega (arith, w.place) in
-      let shorter = lt-ltb (length before) (length t) (omega (arith, ap length unchanged, need-is)) in
-      let e : lowest (room_rules t before) ≡ some (TextPlace (length t)) = lowest_here (ltb (length before) (length t)) (TextPlace (length t)) [] shorter in
-      record { answer = rw (e, need-is) refl; place = rw e unchanged }
-
-  pub put_done : need ≤ length (gone ++ before) → (r : ℕ) (out : List ℕ) → Wrote (gone ++ before) 0 t r out → Put t before (answer.Written need) out
-  put_done h r out u =
-      let need-is : need ≡ length t = omega (arith, w.place) in
-      put_roomy before t (omega (arith, ap length unchanged, need-is)) need r out need-is (rw unchanged at u)
+      answer = rw e (ap Ok (omega (arith, w.place)));
+      place = rw e (w.list ∙ sets-eq t before 0 (omega arith) ∙ ap (λ (k : ℕ). t ++ drop k before) z);
+    })
+    (λ g. absurd (let q = rw (lt-ltb (length before) (length t) g) at h in let z : ◌≡◌ {A = ℕ} 0 1 = cc in omega arith))

@@ -3,7 +3,7 @@ use Prim.Native.Nat.{ℕ, zero, suc, ◌+◌, ◌/◌, ◌%◌, ◌≤◌}
 use mathlib.Core.Path.{◌≡◌, refl, sym, ap, ◌∙◌}
 use mathlib.Core.Bool.{true, false}
 use mathlib.Core.List.{List, [], ◌∷◌, ◌++◌, append_assoc, append-nil}
-use mathlib.Core.Option.{none}
+use Rattle.std.specs.Prelude.{None}
 use native.Mathlib.Omega.{arith}
 use lib.ListN.{length, get_or, drop, length-append, length-drop}
 use lib.Seq.{drop-drop, drop-append_seam, get_or-drop, get_or-append_seam}
@@ -129,7 +129,7 @@ line_from_ends k (n ∷ ns) rest = refl
 
 module _ (form : Form) (text : List ℕ) where
   Reads : List ℕ → List Item → Type 0
-  Reads left xs = (at : ℕ) (before : List ℕ) → Gap form before → drop at text ≡ before ++ left → mismatch form text at xs ≡ none
+  Reads left xs = (at : ℕ) (before : List ℕ) → Gap form before → drop at text ≡ before ++ left → mismatch form text at xs ≡ None
 
   -- a number that a line goes on after
   reads_number : (n k : ℕ) (ns rest : List ℕ) (xs : List Item) → Reads (line_from (suc k) ns ++ rest) (line_items form ns ++ xs) → Reads (decimal n ++ (line_from (suc k) ns ++ rest)) (line_items form (n ∷ ns) ++ xs)
@@ -176,6 +176,6 @@ module _ (form : Form) (text : List ℕ) where
   reads_lines (line ∷ lines) at before b e = reads_line (text_of lines) (items_of form lines) (reads_lines lines) line 0 at before b e
 
 -- any lines read back as themselves, in either form
-pub reads_back : (form : Form) (lines : List (List ℕ)) → mismatch form (text_of lines) 0 (items_of form lines) ≡ none
+pub reads_back : (form : Form) (lines : List (List ℕ)) → mismatch form (text_of lines) 0 (items_of form lines) ≡ None
 unfolding Reads
 reads_back form lines = reads_lines form (text_of lines) lines 0 [] tt refl

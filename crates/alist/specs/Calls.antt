@@ -1,7 +1,6 @@
 -- The answers of the two calls: refusals 1 to 6 and 17, and 1 to 6 and 21 (document 01, "Turned away"), and of both last 25 (document 02,
 -- slip 7): a list of weights is wrong.
-use Rattle.std.specs.Prelude.{ℕ, List, [], ◌∷◌, ◌++◌, ltb, ℤ, length, drop}
-use Rattle.std.proofs.Math.Option.{Option, none, some}
+use Rattle.std.specs.Prelude.{ℕ, List, [], ◌∷◌, ◌++◌, ltb, ℤ, length, drop, Option, None, Some}
 use Rattle.refusal.specs.declared.Refusal.{Refusal}
 use Rattle.refusal.specs.declared.Refusal.TheVariants.{TextPlace, Token}
 use Rattle.refusal.specs.Lowest.{Rule, refuse}
@@ -13,10 +12,6 @@ use Rattle.weights.specs.Weights.{shape_of, weight_rules}
 use Rattle.lines.specs.Alist.{alist}
 use Rattle.lines.specs.Text.{text_of}
 use Rattle.comparer.specs.Verdict.{departs}
-use Rattle.alist.specs.declared.Written.{Written}
-use Rattle.alist.specs.declared.Written.TheVariants as answer
-use Rattle.alist.specs.declared.Comparison.{Comparison}
-use Rattle.alist.specs.declared.Comparison.TheVariants.{Agrees, Refused}
 
 -- the alist of a plan as text
 abbrev pub alist_text : List ℤ → ℕ → ℕ → ℕ → List ℕ
@@ -33,20 +28,15 @@ place_rules plan s byrow bycol place = room_rules (alist_text plan s.rows s.cols
 unfoldable pub write_rules : List ℤ → ℕ → ℕ → ℕ → List ℕ → List ℕ → List ℕ → List Rule
 write_rules plan rows cols lift byrow bycol place = plan_rules plan rows cols lift ++ place_rules plan (shape_of rows cols lift) byrow bycol place
 
--- the answer of `write`: the text's length, or a refusal
-abbrev pub written : ℕ → Option Refusal → Written
-written n none = answer.Written n
-written n (some r) = answer.Refused r
-
 -- what the place then holds: the text and, past it, the bytes as they were; on a refusal all stays
 abbrev pub laid : Option Refusal → List ℕ → List ℕ → List ℕ
-laid none text place = text ++ drop (length text) place
-laid (some r) text place = place
+laid None text place = text ++ drop (length text) place
+laid (Some r) text place = place
 
 -- 21: the place at which the text departs from both forms of the alist, where it does
 abbrev pub place_of : Option ℕ → ℕ
-place_of none = 0
-place_of (some place) = place
+place_of None = 0
+place_of (Some place) = place
 
 abbrev pub token_rules : Option ℕ → List Rule
 token_rules wrong = refuse (Token (place_of wrong)) (is_some wrong) ∷ []
@@ -57,8 +47,3 @@ text_rules plan s byrow bycol text = token_rules (departs text (graph_of plan s)
 
 unfoldable pub compare_rules : List ℤ → ℕ → ℕ → ℕ → List ℕ → List ℕ → List ℕ → List Rule
 compare_rules plan rows cols lift byrow bycol text = plan_rules plan rows cols lift ++ text_rules plan (shape_of rows cols lift) byrow bycol text
-
--- the answer of `compare`
-abbrev pub comparison : Option Refusal → Comparison
-comparison none = Agrees
-comparison (some r) = Refused r

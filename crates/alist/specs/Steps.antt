@@ -1,19 +1,20 @@
 -- What the writer does to a text: it puts a whole text into a place that is long enough.
-use Rattle.std.specs.Prelude.{ℕ, ◌+◌, ◌*◌, ◌≡◌, List, length}
+use Rattle.std.specs.Prelude.{Result, ℕ, ◌+◌, ◌*◌, ◌≡◌, List, length}
+use Rattle.refusal.specs.declared.Refusal.{Refusal}
 use Rattle.refusal.specs.Lowest.{Rule, lowest}
 use Rattle.weights.specs.declared.Side.TheVariants.{Bits, Checks}
 use Rattle.lines.specs.declared.Layout.{Layout}
 use Rattle.lines.specs.Sides.{node_count}
-use Rattle.alist.specs.declared.Written.{Written}
-use Rattle.alist.specs.Calls.{room_rules, written, laid}
+use Rattle.refusal.specs.Answer.{outcome}
+use Rattle.alist.specs.Calls.{room_rules, laid}
 
 -- a text put into a place, unless a rule applies: the answer, and what the place then holds
-pub record PutBy (rules : List Rule) (text before : List ℕ) (r : Written) (after : List ℕ) : Type 0 where
-  pub answer : r ≡ written (length text) (lowest rules)
+pub record PutBy (rules : List Rule) (text before : List ℕ) (r : Result ℕ Refusal) (after : List ℕ) : Type 0 where
+  pub answer : r ≡ outcome (lowest rules) (length text)
   pub place : after ≡ laid (lowest rules) text before
 
 -- unless that is too short
-abbrev pub Put : List ℕ → List ℕ → Written → List ℕ → Type 0
+abbrev pub Put : List ℕ → List ℕ → Result ℕ Refusal → List ℕ → Type 0
 Put text before r after = PutBy (room_rules text before) text before r after
 
 -- no alist of the layout is longer: a line feed for each line, and for each number at most six digits and a space

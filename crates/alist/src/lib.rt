@@ -1,37 +1,45 @@
 // The alist text of a plan (document 01, "alist text"): a writer into a lent place, and a comparer of a lent text.
 #![tactic(auto)]
 
-ghost use Rattle.std.specs.Prelude.{◌≡◌, length};
+ghost use Rattle.std.specs.Prelude.{◌≡◌, ℕ, List};
+ghost use Rattle.std.specs.Fn.{FnOnceReturnsAtPair};
+ghost use Rattle.refusal.specs.Answer.{ok_unless};
 ghost use Rattle.refusal.specs.Lowest.{lowest};
 ghost use Rattle.exponent.specs.Limits.{WellFormed};
 ghost use Rattle.exponent.specs.Tanner.{graph_of};
 ghost use Rattle.comparer.specs.Verdict.{departs};
 ghost use Rattle.weights.specs.Weights.{Weighed};
-ghost use Rattle.alist.specs.Calls.{alist_text, place_rules, write_rules, token_rules, text_rules, compare_rules, comparison};
+ghost use Rattle.alist.specs.Calls.{alist_text, place_rules, write_rules, token_rules, text_rules, compare_rules};
 ghost use Rattle.alist.specs.Steps.{PutBy};
 
 mod put; // put.rt: lines and the whole text, written where there is room
 
-use comparer::Verdict;
-use exponent::{Shape, Validity};
+use exponent::Shape;
 use refusal::Refusal;
 
-// The length of the text written, or why there is none.
-#[derive(Clone, Copy)]
-pub enum Written {
-    Written(usize),
-    Refused(Refusal),
-}
-
-// Whether a text is the alist of a plan, or why not.
-#[derive(Clone, Copy)]
-pub enum Comparison {
-    Agrees,
-    Refused(Refusal),
+// Takes a step with the weights of a valid plan, which are counted here: the lent lists are wrong.
+fn with_weights<R, F: FnOnce(&[u16], &[u16]) -> R>(plan: &[i16], s: Shape, step: F) -> R
+    requires formed { WellFormed plan.now s.rows s.cols s.lift }
+    requires taken { (byrow bycol : _) → Weighed plan.now s byrow.now bycol.now → F.pre step byrow bycol }
+    ensures { (byrow : List ℕ) × (bycol : List ℕ) × Weighed plan.now s byrow bycol × FnOnceReturnsAtPair F.FnOnce step byrow bycol result }
+{
+    let mut rows = [0u16; weights::ROWS];
+    let mut cols = [0u16; weights::COLS];
+    let byrow = &mut rows[..s.rows];
+    let bycol = &mut cols[..s.cols];
+    weights::fill(plan, s, byrow, bycol);
+    step(byrow, bycol)
 }
 
 // Writes the alist of a valid plan, unless the place is too short or a list of weights is wrong: then nothing is written.
-fn write_valid(plan: &[i16], s: Shape, byrow: &[u16], bycol: &[u16], text: &mut [u8]) -> Written
+#[tactic(auto, using(weights::proofs::Weights::right_exactly), unfolding(refusal::specs::Lowest::lowest))]
+fn write_valid(
+    plan: &[i16],
+    s: Shape,
+    byrow: &[u16],
+    bycol: &[u16],
+    text: &mut [u8],
+) -> Result<usize, Refusal>
     requires { WellFormed plan.now s.rows s.cols s.lift }
     ensures { PutBy (place_rules plan.now s byrow.now bycol.now text.old)
         (alist_text plan.now s.rows s.cols s.lift) text.old result text.new }
@@ -39,14 +47,20 @@ fn write_valid(plan: &[i16], s: Shape, byrow: &[u16], bycol: &[u16], text: &mut 
     if weights::are_right(plan, s, byrow, bycol) {
         return put::write_weighed(plan, s, byrow, bycol, text);
     }
-    let need = put::text_length(plan, s);
+    let need = with_weights(
+        plan,
+        s,
+        |byrow, bycol| put::length_weighed(plan, s, byrow, bycol),
+    );
     if text.len() < need {
-        return Written::Refused(Refusal::TextPlace(need));
+        Err(Refusal::TextPlace(need))
+    } else {
+        Err(Refusal::Weights)
     }
-    Written::Refused(Refusal::Weights)
 }
 
 // Writes the alist of a plan into a lent place; bytes past the text stay, and nothing changes on a refusal.
+#[tactic(auto, using(crate::proofs::Answers::still_refused, crate::proofs::Answers::then_others, crate::proofs::Answers::valid_formed), unfolding(crate::specs::Calls::write_rules))]
 pub fn write(
     plan: &[i16],
     rows: usize,
@@ -55,75 +69,55 @@ pub fn write(
     row_weights: &[u16],
     col_weights: &[u16],
     text: &mut [u8],
-) -> Written
+) -> Result<usize, Refusal>
     ensures { PutBy (write_rules plan.now rows cols lift row_weights.now col_weights.now text.old)
         (alist_text plan.now rows cols lift) text.old result text.new }
 {
-    match exponent::validate(plan, rows, cols, lift) {
-        Validity::Valid => write_valid(
-            plan,
-            Shape { rows, cols, lift },
-            row_weights,
-            col_weights,
-            text,
-        ),
-        Validity::Refused(r) => Written::Refused(r),
-    }
+    exponent::validate(plan, rows, cols, lift)?;
+    let s = Shape { rows, cols, lift };
+    write_valid(plan, s, row_weights, col_weights, text)
 }
 
 // The comparison of a lent text with the alist of a valid plan with its lists of weights, in either form.
-fn compare_weighed(plan: &[i16], s: Shape, byrow: &[u16], bycol: &[u16], text: &[u8]) -> Comparison
-    requires { WellFormed plan.now s.rows s.cols s.lift × Weighed plan.now s byrow.now bycol.now }
-    ensures { result ≡ comparison (lowest (token_rules (departs text.now (graph_of plan.now s)))) }
-{
-    match comparer::compare(text, plan, byrow, bycol, s) {
-        Verdict::Same => Comparison::Agrees,
-        Verdict::Differs(p) => Comparison::Refused(Refusal::Token(p)),
-    }
-}
-
-// The same with lists that are first filled.
-fn compare_counted(
+#[tactic(auto, unfolding(refusal::specs::Lowest::lowest))]
+fn compare_weighed(
     plan: &[i16],
     s: Shape,
-    byrow: &mut [u16],
-    bycol: &mut [u16],
+    byrow: &[u16],
+    bycol: &[u16],
     text: &[u8],
-) -> Comparison
-    requires { WellFormed plan.now s.rows s.cols s.lift × (length byrow.old ≡ s.rows) × (length bycol.old ≡ s.cols) }
-    ensures { result ≡ comparison (lowest (token_rules (departs text.now (graph_of plan.now s)))) }
+) -> Result<(), Refusal>
+    requires { WellFormed plan.now s.rows s.cols s.lift × Weighed plan.now s byrow.now bycol.now }
+    ensures { result ≡ ok_unless (lowest (token_rules (departs text.now (graph_of plan.now s)))) }
 {
-    weights::fill(plan, s, byrow, bycol);
-    compare_weighed(plan, s, byrow, bycol, text)
-}
-
-// The same of a valid plan whose weights are counted here: the lent lists are wrong.
-fn compare_text(plan: &[i16], s: Shape, text: &[u8]) -> Comparison
-    requires { WellFormed plan.now s.rows s.cols s.lift }
-    ensures { result ≡ comparison (lowest (token_rules (departs text.now (graph_of plan.now s)))) }
-{
-    let mut byrow = [0u16; weights::ROWS];
-    let mut bycol = [0u16; weights::COLS];
-    let rows = s.rows;
-    let cols = s.cols;
-    compare_counted(plan, s, &mut byrow[..rows], &mut bycol[..cols], text)
+    comparer::compare(text, plan, byrow, bycol, s).map_err(Refusal::Token)
 }
 
 // The comparison of a lent text with the alist of a valid plan; where that agrees, wrong lists of weights are refused.
-fn compare_valid(plan: &[i16], s: Shape, byrow: &[u16], bycol: &[u16], text: &[u8]) -> Comparison
+#[tactic(auto, using(weights::proofs::Weights::right_exactly), unfolding(refusal::specs::Lowest::lowest))]
+fn compare_valid(
+    plan: &[i16],
+    s: Shape,
+    byrow: &[u16],
+    bycol: &[u16],
+    text: &[u8],
+) -> Result<(), Refusal>
     requires { WellFormed plan.now s.rows s.cols s.lift }
-    ensures { result ≡ comparison (lowest (text_rules plan.now s byrow.now bycol.now text.now)) }
+    ensures { result ≡ ok_unless (lowest (text_rules plan.now s byrow.now bycol.now text.now)) }
 {
     if weights::are_right(plan, s, byrow, bycol) {
         return compare_weighed(plan, s, byrow, bycol, text);
     }
-    match compare_text(plan, s, text) {
-        Comparison::Agrees => Comparison::Refused(Refusal::Weights),
-        Comparison::Refused(r) => Comparison::Refused(r),
-    }
+    with_weights(
+        plan,
+        s,
+        |byrow, bycol| compare_weighed(plan, s, byrow, bycol, text),
+    )?;
+    Err(Refusal::Weights)
 }
 
 // Compares a lent text with the alist of a plan, in either form.
+#[tactic(auto, using(crate::proofs::Answers::still_refused, crate::proofs::Answers::then_others, crate::proofs::Answers::valid_formed), unfolding(crate::specs::Calls::compare_rules))]
 pub fn compare(
     plan: &[i16],
     rows: usize,
@@ -132,17 +126,10 @@ pub fn compare(
     row_weights: &[u16],
     col_weights: &[u16],
     text: &[u8],
-) -> Comparison
-    ensures { result ≡ comparison (lowest (compare_rules plan.now rows cols lift row_weights.now col_weights.now text.now)) }
+) -> Result<(), Refusal>
+    ensures { result ≡ ok_unless (lowest (compare_rules plan.now rows cols lift row_weights.now col_weights.now text.now)) }
 {
-    match exponent::validate(plan, rows, cols, lift) {
-        Validity::Valid => compare_valid(
-            plan,
-            Shape { rows, cols, lift },
-            row_weights,
-            col_weights,
-            text,
-        ),
-        Validity::Refused(r) => Comparison::Refused(r),
-    }
+    exponent::validate(plan, rows, cols, lift)?;
+    let s = Shape { rows, cols, lift };
+    compare_valid(plan, s, row_weights, col_weights, text)
 }

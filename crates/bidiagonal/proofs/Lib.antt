@@ -1,3 +1,4 @@
 pub mod Thirds
+pub mod Columns
 pub mod Judging
 pub mod Words

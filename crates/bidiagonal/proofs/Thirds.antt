@@ -3,7 +3,7 @@ use Prim.Native.Nat.{ℕ}
 use mathlib.Core.Path.{◌≡◌, refl, sym}
 use mathlib.Core.Logic.{inl, inr}
 use mathlib.Core.List.{List, [], ◌∷◌}
-use mathlib.Core.Option.{none, some}
+use Rattle.std.specs.Prelude.{None, Some}
 use native.Mathlib.Omega.{arith}
 use borrow.Author.Tests.{eqb-true}
 use lib.Dec.{eqb}
@@ -18,7 +18,7 @@ pub data Twice (x : ℕ) : List ℕ → Type 0 where
   lower_two : (a : ℕ) → Twice x (x ∷ a ∷ a ∷ [])
 
 -- THE LAW: a list has a third where it is one of these
-pub twice : (l : List ℕ) (x : ℕ) → third l ≡ some x → Twice x l
+pub twice : (l : List ℕ) (x : ℕ) → third l ≡ Some x → Twice x l
 twice [] x e = absurd (let z : ◌≡◌ {A = ℕ} 0 1 = cc in omega arith)
 twice (a ∷ []) x e = absurd (let z : ◌≡◌ {A = ℕ} 0 1 = cc in omega arith)
 twice (a ∷ b ∷ []) x e = absurd (let z : ◌≡◌ {A = ℕ} 0 1 = cc in omega arith)
@@ -33,10 +33,10 @@ twice (a ∷ b ∷ c ∷ []) x e =
     (λ s. lower (same a (rw (p, r, s) at e)) (eqb-true b c s))
     (λ s. absurd (let z : ◌≡◌ {A = ℕ} 0 1 = never (rw (p, r, s) at e) in omega arith))))
   where
-    same : (m : ℕ) → some m ≡ some x → m ≡ x
+    same : (m : ℕ) → Some m ≡ Some x → m ≡ x
     same m q = cc
 
-    never : none ≡ some x → ◌≡◌ {A = ℕ} 0 1
+    never : None ≡ Some x → ◌≡◌ {A = ℕ} 0 1
     never q = cc
 
     upper : (c : ℕ) → c ≡ x → a ≡ b → Twice x (a ∷ b ∷ c ∷ [])

@@ -4,7 +4,7 @@ use mathlib.Core.Path.{◌≡◌, refl, sym, ap, subst, ◌∙◌}
 use mathlib.Core.Logic.{◌⊎◌, inl, inr, ◌≢◌, ◌↔◌}
 use mathlib.Core.Bool.{true, false, not}
 use mathlib.Core.List.{List, [], ◌∷◌}
-use mathlib.Core.Option.{Option, none, some}
+use Rattle.std.specs.Prelude.{Option, None, Some}
 use native.Mathlib.Omega.{arith}
 use borrow.Author.Tests.{eqb-false, le-ltb}
 use lib.Dec.{eqb}
@@ -101,7 +101,7 @@ repeats block i k e (j ∷ l) dl d (inr m) (inr n) ik p q = repeats block i k e 
     rest Invalid t = t
 
 -- three shifts without a third are all different
-none_third : (l : List ℕ) → length l ≡ 3 → third l ≡ none → Nodup l
+none_third : (l : List ℕ) → length l ≡ 3 → third l ≡ None → Nodup l
 none_third [] h e = absurd (omega arith)
 none_third (a ∷ []) h e = absurd (omega arith)
 none_third (a ∷ b ∷ []) h e = absurd (omega arith)
@@ -116,7 +116,7 @@ none_third (a ∷ b ∷ c ∷ []) h e =
     (λ s. absurd (let z = never a (rw (p, r, s) at e) in omega arith))
     (λ s. (λ m. apart (eqb-false a b p) (eqb-false a c r) m, (λ m. apart' (eqb-false b c s) m, (λ m. m, tt))))))
   where
-    never : (x : ℕ) → some x ≡ none → ◌≡◌ {A = ℕ} 0 1
+    never : (x : ℕ) → Some x ≡ None → ◌≡◌ {A = ℕ} 0 1
     never x q = cc
 
     apart : a ≢ b → a ≢ c → Mem a (b ∷ c ∷ []) → ⊥
@@ -206,8 +206,8 @@ module _ (plan : List ℤ) (rows cols lift : ℕ) where
   some_lone s = step (third shifts) refl
     where
       step : (o : Option ℕ) → third shifts ≡ o → is_some (third shifts) ≡ true
-      step (some x) e = ap is_some e
-      step none e =
+      step (Some x) e = ap is_some e
+      step None e =
           let (i, k, x, l, h, p, q) = s.two_equal in
           absurd (repeats last i k x (below rows) (nodup_range 0 rows) (none_third shifts (length_shifts last (below rows) ∙ s.three_filled) e) (below_mem i rows (omega arith)) (below_mem k rows h) (λ r. omega arith) p q)
 

@@ -2,7 +2,7 @@
 -- m rows, m at least 3, column k, for k from 0 to m − 2, has shift 0 in rows k and k + 1 and nothing else; column m − 1 has exactly three filled
 -- blocks, at least two of them with the same shift; the columns behind it, at least one, carry data.
 use Rattle.std.specs.Prelude.{ℕ, ◌+◌, ◌-◌, Bool, true, false, cond, not, ◌||◌, List, [], ◌∷◌, eqb, ltb, ℤ}
-use Rattle.std.proofs.Math.Option.{Option, none, some}
+use Rattle.std.specs.Prelude.{Option, None, Some}
 use Rattle.graph.specs.Count.{below, is_some}
 use Rattle.graph.specs.Erasure.{any}
 use Rattle.exponent.specs.declared.block.Block.{Block}
@@ -42,14 +42,14 @@ shifts_of column (i ∷ l) = add_shift (column i) (shifts_of column l)
 
 -- of three shifts, at least two of them equal, the third
 abbrev pub third_of : ℕ → ℕ → ℕ → Option ℕ
-third_of a b c = cond (eqb a b) (some c) (cond (eqb a c) (some b) (cond (eqb b c) (some a) none))
+third_of a b c = cond (eqb a b) (Some c) (cond (eqb a c) (Some b) (cond (eqb b c) (Some a) None))
 
 abbrev pub third : List ℕ → Option ℕ
-third [] = none
-third (a ∷ []) = none
-third (a ∷ b ∷ []) = none
+third [] = None
+third (a ∷ []) = None
+third (a ∷ b ∷ []) = None
 third (a ∷ b ∷ c ∷ []) = third_of a b c
-third (a ∷ b ∷ c ∷ d ∷ l) = none
+third (a ∷ b ∷ c ∷ d ∷ l) = None
 
 -- the third shift of column m − 1
 unfoldable pub third_shift : List ℤ → ℕ → ℕ → ℕ → Option ℕ

@@ -1,71 +1,52 @@
-ghost use Rattle.std.specs.Prelude.{◌≡◌, ◌<◌};
-ghost use Rattle.exponent.specs.Limits.{WellFormed};
-ghost use Rattle.bidiagonal.specs.Shape.{third_of};
-ghost use Rattle.bidiagonal.specs.Work.{third_in, Added, Held, column_shifts};
+ghost use Rattle.std.specs.Prelude.{◌≡◌, ◌≢◌, ◌<◌, MatchOption, length};
+ghost use Rattle.bidiagonal.specs.Shape.{third_of, third_shift};
+ghost use Rattle.bidiagonal.specs.Work.{column_shifts};
 
-use crate::Third;
 use exponent::block::Block;
-use exponent::{Shape, block};
+use exponent::plan::Plan;
 
-// How many shifts were met, and the last three.
-#[derive(Clone, Copy)]
-pub struct Three {
-    pub count: usize,
-    pub a: usize,
-    pub b: usize,
-    pub c: usize,
-}
-
-// The shifts with that of block b before them, if it is filled.
-fn add_shift(t: Three, b: Block) -> Three
-    requires { t.count < 65536 }
-    ensures { Added t b result }
+// The shifts of column m − 1, if there are three.
+#[tactic(auto, using(crate::proofs::Columns::four_shifts))]
+fn shifts(plan: &Plan) -> Option<[usize; 3]>
+    requires { plan.now.shape.rows < plan.now.shape.cols }
+    ensures { MatchOption result (length (column_shifts plan.now.entries.now plan.now.shape plan.now.shape.rows) ≢ 3) (λ three. three ≡ column_shifts plan.now.entries.now plan.now.shape plan.now.shape.rows) }
 {
-    match b {
-        Block::Zero => t,
-        Block::Invalid => t,
-        Block::Shift(e) => Three {
-            count: t.count + 1,
-            a: e,
-            b: t.a,
-            c: t.b,
-        },
+    let last = plan.shape.rows - 1;
+    let mut three = [0; 3];
+    let mut n = 0;
+    for i in 0..plan.shape.rows {
+        if let Block::Shift(e) = plan.block_at(i, last) {
+            if n == 3 {
+                return None;
+            }
+            three[n] = e;
+            n += 1;
+        }
     }
-}
-
-// The shifts of column m − 1, from its last row to its first.
-pub fn shifts(plan: &[i16], shape: Shape) -> Three
-    requires { WellFormed plan.now shape.rows shape.cols shape.lift × (shape.rows < shape.cols) }
-    ensures { Held (column_shifts plan.now shape 0) result }
-{
-    let last = shape.rows - 1;
-    let mut t = Three {
-        count: 0,
-        a: 0,
-        b: 0,
-        c: 0,
-    };
-    let mut i = shape.rows;
-    while 0 < i {
-        i -= 1;
-        let b = block::block_at(plan, shape.cols, shape.lift, i, last);
-        t = add_shift(t, b);
-    }
-    t
+    if n == 3 { Some(three) } else { None }
 }
 
 // Of three shifts, at least two of them equal, the third.
-pub fn third_of(a: usize, b: usize, c: usize) -> Third
-    ensures { result ≡ third_in (third_of a b c) }
+fn third_of(a: usize, b: usize, c: usize) -> Option<usize>
+    ensures { result ≡ third_of a b c }
 {
     if a == b {
-        return Third::Shift(c);
+        Some(c)
+    } else if a == c {
+        Some(b)
+    } else if b == c {
+        Some(a)
+    } else {
+        None
     }
-    if a == c {
-        return Third::Shift(b);
-    }
-    if b == c {
-        return Third::Shift(a);
-    }
-    Third::Nothing
+}
+
+// The third shift of column m − 1, where it has three, at least two of them equal.
+#[tactic(auto, using(crate::proofs::Columns::third_three, crate::proofs::Columns::third_none), unfolding(crate::specs::Shape::third_shift))]
+pub fn third(plan: &Plan) -> Option<usize>
+    requires { plan.now.shape.rows < plan.now.shape.cols }
+    ensures { result ≡ third_shift plan.now.entries.now plan.now.shape.rows plan.now.shape.cols plan.now.shape.lift }
+{
+    let [a, b, c] = shifts(plan)?;
+    third_of(a, b, c)
 }

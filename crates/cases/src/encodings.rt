@@ -2,66 +2,52 @@
 ghost use Rattle.std.specs.Prelude.{◌≤◌};
 
 use crate::joins::show;
-use crate::say::{number, refused, say};
-use crate::source003::put_plan;
-use encoding::Encoding;
-use exponent::Shape;
+use crate::plan::Case;
+use crate::say::refused;
+use crate::source003;
+use refusal::Refusal;
 use std::io;
 use std::io::Stdout;
 
-// A byte as a number.
-pub fn wide(byte: u8) -> usize
-    ensures { result ≤ 255 }
-{
-    byte as usize
-}
-
 // The bytes of a list.
 pub fn bits(out: Stdout, list: &[u8]) -> io::Result<()> {
-    for k in 0..list.len() {
-        number(out, b" ", wide(list[k]))?;
+    for byte in list {
+        print!(out; " {byte}")?;
     }
     Ok(())
 }
 
 // How many bytes of a list are this one.
 pub fn count(list: &[u8], byte: u8) -> usize {
-    let mut n = 0;
-    for k in 0..list.len() {
-        if list[k] == byte {
-            n += 1;
-        }
-    }
-    n
+    list.iter().filter(|b| **b == byte).count()
 }
 
-// Whether all bytes of a word are 7 as before.
-fn untouched(out: Stdout, word: &[u8]) -> io::Result<()> {
-    if count(word, 7) == word.len() {
-        say(out, b", all bytes still 7")
-    } else {
-        say(out, b", not all bytes still 7")
-    }
+// Encodes in a place.
+pub fn encode(plan: Case<'_>, info: &[u8], word: &mut [u8]) -> Result<(), Refusal> {
+    let s = plan.shape;
+    encoding::encode(plan.entries, s.rows, s.cols, s.lift, info, word)
 }
 
-// Encodes in a word of 7s, and writes the plan, the data bits and the frame, or the refusal and whether the word is as it was.
-fn small(out: Stdout, plan: &[i16], s: Shape, info: &[u8], word: &mut [u8]) -> io::Result<()> {
-    say(out, b"frame,")?;
-    show(out, plan, s.cols, s.lift)?;
-    number(out, b", ", info.len())?;
-    say(out, b" data bits")?;
+// Encodes in a word of that many 7s, and writes the plan, the data bits and the frame, or the refusal and whether the word is as it was.
+fn small<const BYTES: usize>(out: Stdout, plan: Case<'_>, info: &[u8]) -> io::Result<()>
+    requires { BYTES ≤ 65536 }
+{
+    let mut word = [7u8; BYTES];
+    print!(out; "frame,")?;
+    show(out, plan)?;
+    print!(out; ", {} data bits", info.len())?;
     bits(out, info)?;
-    number(out, b" in ", word.len())?;
-    say(out, b" bytes:")?;
-    match encoding::encode(plan, s.rows, s.cols, s.lift, info, word) {
-        Encoding::Encoded => bits(out, word)?,
-        Encoding::Refused(r) => {
-            say(out, b" ")?;
+    print!(out; " in {BYTES} bytes:")?;
+    match encode(plan, info, &mut word) {
+        Ok(()) => bits(out, &word)?,
+        Err(r) => {
+            print!(out; " ")?;
             refused(out, r)?;
-            untouched(out, word)?;
+            let not = if count(&word, 7) == BYTES { "" } else { "not " };
+            print!(out; ", {not}all bytes still 7")?;
         }
     }
-    say(out, b"\n")
+    println!(out)
 }
 
 // A plan of the shape, whose column 2 has the remainders 1, 1 and 2 by 3; others differ from it in an entry or two.
@@ -93,115 +79,49 @@ const TOO_MANY: [u8; 7] = [1, 0, 0, 0, 0, 0, 0];
 const WITH_TWO: [u8; 6] = [1, 0, 0, 2, 0, 0];
 
 // A plan of three rows and five columns at P = 3.
-fn at_three(out: Stdout, plan: &[i16], info: &[u8]) -> io::Result<()> {
-    let s = Shape {
-        rows: 3,
-        cols: 5,
-        lift: 3,
-    };
-    let mut word = [7u8; 15];
-    small(out, plan, s, info, &mut word)
-}
-
-// The example at P = 1.
-fn at_one(out: Stdout, info: [u8; 2]) -> io::Result<()> {
-    let s = Shape {
-        rows: 3,
-        cols: 5,
-        lift: 1,
-    };
-    let mut word = [7u8; 5];
-    small(out, &EXAMPLE, s, &info, &mut word)
+fn three(entries: &[i16; 15]) -> Case<'_> {
+    Case::new(entries, 3, 5, 3)
 }
 
 pub fn small_plans(out: Stdout) -> io::Result<()> {
-    at_three(out, &EXAMPLE, &ONE)?;
-    at_three(out, &EXAMPLE, &FOUR)?;
-    at_three(out, &EXAMPLE, &ALL)?;
-    at_three(out, &ALL_EQUAL, &ONE)?;
-    at_three(out, &ALL_EQUAL, &FOUR)?;
-    at_one(out, [1, 0])?;
-    at_one(out, [1, 1])
-}
-
-// A word of another length, a byte too short and too long.
-fn other_lengths(out: Stdout) -> io::Result<()> {
-    let s = Shape {
-        rows: 3,
-        cols: 5,
-        lift: 3,
-    };
-    let mut short = [7u8; 14];
-    let mut long = [7u8; 16];
-    small(out, &EXAMPLE, s, &ONE, &mut short)?;
-    small(out, &EXAMPLE, s, &ONE, &mut long)
-}
-
-// Two rows.
-fn two_rows(out: Stdout) -> io::Result<()> {
-    let s = Shape {
-        rows: 2,
-        cols: 4,
-        lift: 3,
-    };
-    let plan = [0i16, 1, 0, 2, 3, 4, 1, -1];
-    let mut word = [7u8; 12];
-    small(out, &plan, s, &ONE, &mut word)
-}
-
-// No data column.
-fn no_data(out: Stdout) -> io::Result<()> {
-    let s = Shape {
-        rows: 3,
-        cols: 3,
-        lift: 3,
-    };
-    let plan = [0i16, -1, 1, 3, 0, 4, -1, 0, 2];
-    let info = [0u8; 0];
-    let mut word = [7u8; 9];
-    small(out, &plan, s, &info, &mut word)
+    small::<15>(out, three(&EXAMPLE), &ONE)?;
+    small::<15>(out, three(&EXAMPLE), &FOUR)?;
+    small::<15>(out, three(&EXAMPLE), &ALL)?;
+    small::<15>(out, three(&ALL_EQUAL), &ONE)?;
+    small::<15>(out, three(&ALL_EQUAL), &FOUR)?;
+    small::<5>(out, three(&EXAMPLE).at(1), &[1, 0])?;
+    small::<5>(out, three(&EXAMPLE).at(1), &[1, 1])
 }
 
 // Four filled blocks in column m − 1, all with the same remainder: a plan by the rule with one more.
 fn four_filled(out: Stdout) -> io::Result<()> {
-    let s = Shape {
-        rows: 4,
-        cols: 5,
-        lift: 3,
-    };
-    let mut plan = [0i16; 20];
-    let info = [1u8, 0, 0];
-    let mut word = [7u8; 15];
-    put_plan(s, &mut plan);
-    plan[8] = 5;
-    small(out, &plan, s, &info, &mut word)
+    let mut entries = source003::entries::<20>(4, 5, 3);
+    entries[8] = 5;
+    small::<15>(out, Case::new(&entries, 4, 5, 3), &[1, 0, 0])
 }
 
-// A word of another length, before a plan of another shape.
-fn length_first(out: Stdout) -> io::Result<()> {
-    let s = Shape {
-        rows: 3,
-        cols: 5,
-        lift: 3,
-    };
-    let mut short = [7u8; 14];
-    small(out, &TURNED, s, &ONE, &mut short)
+// Of the word's length, a byte too short and too long; of the plan's shape: two rows, no data column, and others.
+fn lengths_and_shapes(out: Stdout) -> io::Result<()> {
+    let two_rows = [0, 1, 0, 2, 3, 4, 1, -1];
+    let no_data = [0, -1, 1, 3, 0, 4, -1, 0, 2];
+    small::<14>(out, three(&EXAMPLE), &ONE)?;
+    small::<16>(out, three(&EXAMPLE), &ONE)?;
+    small::<12>(out, Case::new(&two_rows, 2, 4, 3), &ONE)?;
+    small::<9>(out, Case::new(&no_data, 3, 3, 3), &[])?;
+    small::<15>(out, three(&OFF_DIAGONALS), &ONE)?;
+    small::<15>(out, three(&TURNED), &ONE)?;
+    small::<15>(out, three(&TWO_FILLED), &ONE)?;
+    four_filled(out)?;
+    small::<15>(out, three(&ALL_DIFFERENT), &ONE)
 }
 
 // Refusals 16, 30, 31 and 6; last, 16 before 30 and 30 before 31.
 pub fn turned_away(out: Stdout) -> io::Result<()> {
-    other_lengths(out)?;
-    two_rows(out)?;
-    no_data(out)?;
-    at_three(out, &OFF_DIAGONALS, &ONE)?;
-    at_three(out, &TURNED, &ONE)?;
-    at_three(out, &TWO_FILLED, &ONE)?;
-    four_filled(out)?;
-    at_three(out, &ALL_DIFFERENT, &ONE)?;
-    at_three(out, &EXAMPLE, &TOO_FEW)?;
-    at_three(out, &EXAMPLE, &TOO_MANY)?;
-    at_three(out, &EXAMPLE, &WITH_TWO)?;
-    at_three(out, &NO_ENTRY, &ONE)?;
-    length_first(out)?;
-    at_three(out, &TURNED, &TOO_FEW)
+    lengths_and_shapes(out)?;
+    small::<15>(out, three(&EXAMPLE), &TOO_FEW)?;
+    small::<15>(out, three(&EXAMPLE), &TOO_MANY)?;
+    small::<15>(out, three(&EXAMPLE), &WITH_TWO)?;
+    small::<15>(out, three(&NO_ENTRY), &ONE)?;
+    small::<14>(out, three(&TURNED), &ONE)?;
+    small::<15>(out, three(&TURNED), &TOO_FEW)
 }

@@ -1,95 +1,82 @@
 // Two plans made one (document 02, slip 9): small plans with their entries, pairs of the sources' plans, and what is turned away.
-ghost use Rattle.std.specs.Prelude.{◌≤◌};
-
-use crate::lowered::ABOVE_ALL;
-use crate::say::{LARGEST, judged, number, refused, say};
-use crate::source002::VOLTAGES;
+use crate::plan::Case;
+use crate::say::{LARGEST, judged, refused};
+use crate::source000::Code;
 use crate::steiner_plans::show_entry;
-use crate::{source000, source001};
-use crt::Joining;
-use exponent::{Shape, block};
+use crate::{source000, source001, source002};
+use refusal::Refusal;
 use std::io;
 use std::io::Stdout;
 
-// Whether a place is the first of a row, and not of the plan.
-fn starts_row(place: usize, cols: usize) -> bool {
-    if place == 0 {
-        return false;
-    }
-    if cols == 0 {
-        return false;
-    }
-    place % cols == 0
-}
+// No entry reaches this lift: it leaves all as they are.
+const ABOVE_ALL: usize = 32768;
 
 // The entries as they stand, with a slash between rows.
-fn entries(out: Stdout, plan: &[i16], cols: usize) -> io::Result<()> {
-    for place in 0..plan.len() {
-        if starts_row(place, cols) {
-            say(out, b" /")?;
+fn entries(out: Stdout, entries: &[i16], cols: usize) -> io::Result<()> {
+    for (i, row) in entries.chunks(cols.max(1)).enumerate() {
+        if 0 < i {
+            print!(out; " /")?;
         }
-        show_entry(out, block::entry_at(plan, ABOVE_ALL, place))?;
+        for e in row {
+            show_entry(out, *e, ABOVE_ALL)?;
+        }
     }
     Ok(())
 }
 
 // The entries and P.
-pub fn show(out: Stdout, plan: &[i16], cols: usize, lift: usize) -> io::Result<()> {
-    entries(out, plan, cols)?;
-    number(out, b", P = ", lift)
+pub fn show(out: Stdout, plan: Case<'_>) -> io::Result<()> {
+    entries(out, plan.entries, plan.shape.cols)?;
+    print!(out; ", P = {}", plan.shape.lift)
+}
+
+// Joins two plans in a lent place.
+fn join(first: Case<'_>, second: Case<'_>, joined: &mut [i16]) -> Result<usize, Refusal> {
+    let s = first.shape;
+    let t = second.shape;
+    crt::join(
+        first.entries,
+        s.rows,
+        s.cols,
+        s.lift,
+        second.entries,
+        t.rows,
+        t.cols,
+        t.lift,
+        joined,
+    )
+}
+
+// The joined plan, of the first one's rows and columns.
+fn joined_plan<'a>(first: Case<'_>, joined: &'a [i16], lift: usize) -> Case<'a> {
+    Case::new(joined, first.shape.rows, first.shape.cols, lift)
 }
 
 // Joins two small plans, and writes them, the joined one and its verdict.
-fn small(
-    out: Stdout,
-    first: &[i16],
-    s: Shape,
-    second: &[i16],
-    t: Shape,
-    joined: &mut [i16],
-) -> io::Result<()> {
-    say(out, b"joined,")?;
-    show(out, first, s.cols, s.lift)?;
-    say(out, b" and")?;
-    show(out, second, t.cols, t.lift)?;
-    number(out, b" in ", joined.len())?;
-    say(out, b" places:")?;
-    match crt::join(
-        first, s.rows, s.cols, s.lift, second, t.rows, t.cols, t.lift, joined,
-    ) {
-        Joining::Joined(lift) => {
-            show(out, joined, s.cols, lift)?;
-            say(out, b", ")?;
-            judged(out, joined, s.rows, s.cols, lift, LARGEST)?;
+fn small(out: Stdout, first: Case<'_>, second: Case<'_>, joined: &mut [i16]) -> io::Result<()> {
+    print!(out; "joined,")?;
+    show(out, first)?;
+    print!(out; " and")?;
+    show(out, second)?;
+    print!(out; " in {} places:", joined.len())?;
+    match join(first, second, joined) {
+        Ok(lift) => {
+            let plan = joined_plan(first, joined, lift);
+            show(out, plan)?;
+            print!(out; ", ")?;
+            judged(out, plan, LARGEST)?;
         }
-        Joining::Refused(r) => {
-            say(out, b" ")?;
+        Err(r) => {
+            print!(out; " ")?;
             refused(out, r)?;
         }
     }
-    say(out, b"\n")
+    println!(out)
 }
 
-// Of two rows and two columns each.
-fn two(
-    out: Stdout,
-    first: &[i16],
-    lift: usize,
-    second: &[i16],
-    lift2: usize,
-    joined: &mut [i16],
-) -> io::Result<()> {
-    let s = Shape {
-        rows: 2,
-        cols: 2,
-        lift,
-    };
-    let t = Shape {
-        rows: 2,
-        cols: 2,
-        lift: lift2,
-    };
-    small(out, first, s, second, t, joined)
+// Of two rows and two columns.
+fn two(entries: &[i16; 4], lift: usize) -> Case<'_> {
+    Case::new(entries, 2, 2, lift)
 }
 
 // The plan 0 0 / 0 1 of document 01, and others that differ from it in an entry.
@@ -105,9 +92,8 @@ const NO_SECOND: [i16; 4] = [0, -2, 0, 1];
 
 // The plan of document 01 with itself, and with another voltage.
 pub fn example(out: Stdout) -> io::Result<()> {
-    let mut joined = [0i16; 4];
-    two(out, &EXAMPLE, 2, &EXAMPLE, 3, &mut joined)?;
-    two(out, &EXAMPLE, 2, &WITH_TWO, 3, &mut joined)
+    small(out, two(&EXAMPLE, 2), two(&EXAMPLE, 3), &mut [0; 4])?;
+    small(out, two(&EXAMPLE, 2), two(&WITH_TWO, 3), &mut [0; 4])
 }
 
 // Voltages at and above P.
@@ -116,197 +102,100 @@ const ABOVE_FOUR: [i16; 6] = [32767, -1, 4, 2, 9, 5];
 const ABOVE_FIVE: [i16; 6] = [10, -1, 4096, 5, 0, 11];
 
 pub fn above(out: Stdout) -> io::Result<()> {
-    let s = Shape {
-        rows: 2,
-        cols: 3,
-        lift: 4,
-    };
-    let t = Shape {
-        rows: 2,
-        cols: 3,
-        lift: 5,
-    };
-    let mut joined = [0i16; 6];
-    small(out, &ABOVE_FOUR, s, &ABOVE_FIVE, t, &mut joined)
+    let first = Case::new(&ABOVE_FOUR, 2, 3, 4);
+    let second = Case::new(&ABOVE_FIVE, 2, 3, 5);
+    small(out, first, second, &mut [0; 6])
+}
+
+// A plan's P, and the verdict on it.
+fn verdict(out: Stdout, label: &str, plan: Case<'_>) -> io::Result<()> {
+    print!(out; "{label}P = {}: ", plan.shape.lift)?;
+    judged(out, plan, LARGEST)
 }
 
 // Joins two plans, and writes the verdict on each and on the joined one.
-fn large(
-    out: Stdout,
-    first: &[i16],
-    s: Shape,
-    second: &[i16],
-    lift2: usize,
-    joined: &mut [i16],
-) -> io::Result<()> {
-    number(out, b", P = ", s.lift)?;
-    say(out, b": ")?;
-    judged(out, first, s.rows, s.cols, s.lift, LARGEST)?;
-    number(out, b", P = ", lift2)?;
-    say(out, b": ")?;
-    judged(out, second, s.rows, s.cols, lift2, LARGEST)?;
-    say(out, b"; ")?;
-    match crt::join(
-        first, s.rows, s.cols, s.lift, second, s.rows, s.cols, lift2, joined,
-    ) {
-        Joining::Joined(lift) => {
-            number(out, b"P = ", lift)?;
-            say(out, b": ")?;
-            judged(out, joined, s.rows, s.cols, lift, LARGEST)?;
-        }
-        Joining::Refused(r) => refused(out, r)?,
+fn large(out: Stdout, first: Case<'_>, second: Case<'_>, joined: &mut [i16]) -> io::Result<()> {
+    verdict(out, ", ", first)?;
+    verdict(out, ", ", second)?;
+    print!(out; "; ")?;
+    match join(first, second, joined) {
+        Ok(lift) => verdict(out, "", joined_plan(first, joined, lift))?,
+        Err(r) => refused(out, r)?,
     }
-    say(out, b"\n")
-}
-
-// Plans of base matrix (6) of source 001.
-fn of_six(
-    out: Stdout,
-    first: [i16; 48],
-    lift: usize,
-    second: [i16; 48],
-    lift2: usize,
-) -> io::Result<()> {
-    let s = Shape {
-        rows: 6,
-        cols: 8,
-        lift,
-    };
-    let mut joined = [0i16; 48];
-    large(out, &first, s, &second, lift2, &mut joined)
+    println!(out)
 }
 
 // The labelings of source 001, Table II.
 pub fn labelings(out: Stdout) -> io::Result<()> {
-    let mut first = [0i16; 48];
-    let mut second = [0i16; 48];
-    source001::put_rows(source001::II_M21, &mut first);
-    source001::put_rows(source001::II_M20, &mut second);
-    say(out, b"joined, 001 table II")?;
-    of_six(out, first, 21, second, 20)
+    let first = source001::plan_at(&source001::II_M21, 21);
+    let second = source001::plan_at(&source001::II_M20, 20);
+    print!(out; "joined, 001 table II")?;
+    large(out, first, second, &mut [0; 48])
 }
 
-// Plans of three rows.
-fn of_three_rows(
-    out: Stdout,
-    first: [i16; 36],
-    cols: usize,
-    lift: usize,
-    second: [i16; 36],
-    lift2: usize,
-) -> io::Result<()>
-    requires { cols ≤ 12 }
-{
-    let s = Shape {
-        rows: 3,
-        cols,
-        lift,
-    };
-    let size = 3 * cols;
+// Codes of source 000 with the same K.
+fn codes(out: Stdout, label: &str, first: Code, second: Code) -> io::Result<()> {
+    let cols = first.cols();
     let mut joined = [0i16; 36];
+    print!(out; "joined, 000 tables {label}, K = {cols}")?;
     large(
         out,
-        &first[0..size],
-        s,
-        &second[0..size],
-        lift2,
-        &mut joined[0..size],
+        first.plan(&first.entries()),
+        second.plan(&second.entries()),
+        &mut joined[..3 * cols],
     )
 }
 
-fn matrices(
-    out: Stdout,
-    cols: usize,
-    rows: [[i16; 11]; 2],
-    lift: usize,
-    rows2: [[i16; 11]; 2],
-    lift2: usize,
-) -> io::Result<()>
-    requires { cols ≤ 12 }
-{
-    let mut first = [0i16; 36];
-    let mut second = [0i16; 36];
-    source000::put_rows(rows, cols, &mut first);
-    source000::put_rows(rows2, cols, &mut second);
-    number(out, b", K = ", cols)?;
-    of_three_rows(out, first, cols, lift, second, lift2)
-}
-
-// Degree matrices of source 000 with the same K.
 pub fn tables(out: Stdout) -> io::Result<()> {
-    say(out, b"joined, 000 tables III and II")?;
-    matrices(out, 4, source000::III_K4_M9, 9, source000::II_K4_M23, 23)?;
-    say(out, b"joined, 000 tables II and IV")?;
-    matrices(out, 5, source000::II_K5_M49, 49, source000::IV_K5_M61, 61)?;
-    say(out, b"joined, 000 tables II and V")?;
-    matrices(out, 7, source000::II_K7_M7, 7, source000::V_K7_M566, 566)
+    codes(
+        out,
+        "III and II",
+        source000::III_K4_M9,
+        source000::II_K4_M23,
+    )?;
+    codes(out, "II and IV", source000::II_K5_M49, source000::IV_K5_M61)?;
+    codes(out, "II and V", source000::II_K7_M7, source000::V_K7_M566)
 }
 
 // Example 1 of source 002 at P = 1 and at the largest lift, which is the joined one too.
 pub fn largest_lift(out: Stdout) -> io::Result<()> {
-    let s = Shape {
-        rows: 3,
-        cols: 4,
-        lift: 1,
-    };
-    let mut joined = [0i16; 12];
-    say(out, b"joined, 002 example 1")?;
-    large(out, &VOLTAGES, s, &VOLTAGES, 4096, &mut joined)
+    print!(out; "joined, 002 example 1")?;
+    large(
+        out,
+        source002::plan_at(1),
+        source002::plan_at(4096),
+        &mut [0; 12],
+    )
 }
 
 fn one_row(out: Stdout, lift: usize, lift2: usize) -> io::Result<()> {
-    let s = Shape {
-        rows: 1,
-        cols: 17,
-        lift,
-    };
     let zeros = [0i16; 17];
-    let mut joined = [0i16; 17];
-    say(out, b"joined, a row of 17 zeros")?;
-    large(out, &zeros, s, &zeros, lift2, &mut joined)
+    let plan = Case::new(&zeros, 1, 17, lift);
+    print!(out; "joined, a row of 17 zeros")?;
+    large(out, plan, plan.at(lift2), &mut [0; 17])
 }
 
 // The joined size: one bit below 65,536, 16 above that; and a joined lift of 4,097.
 pub fn sizes(out: Stdout) -> io::Result<()> {
-    let mut joined = [0i16; 4];
     one_row(out, 15, 257)?;
     one_row(out, 16, 241)?;
-    two(out, &EXAMPLE, 17, &EXAMPLE, 241, &mut joined)
-}
-
-// The same list as one row of four.
-fn other_rows(out: Stdout) -> io::Result<()> {
-    let s = Shape {
-        rows: 2,
-        cols: 2,
-        lift: 2,
-    };
-    let t = Shape {
-        rows: 1,
-        cols: 4,
-        lift: 3,
-    };
-    let mut joined = [0i16; 4];
-    small(out, &EXAMPLE, s, &EXAMPLE, t, &mut joined)
+    small(out, two(&EXAMPLE, 17), two(&EXAMPLE, 241), &mut [0; 4])
 }
 
 // A shared divisor, other empty blocks, other rows and columns, and a place of another length, alone and together.
 pub fn turned_away(out: Stdout) -> io::Result<()> {
-    let mut joined = [0i16; 4];
-    let mut short = [0i16; 3];
-    let mut long = [0i16; 5];
-    two(out, &EXAMPLE, 4, &EXAMPLE, 6, &mut joined)?;
-    two(out, &EXAMPLE, 4, &ONE_EMPTY, 6, &mut short)?;
-    two(out, &EXAMPLE, 2, &ONE_EMPTY, 3, &mut joined)?;
-    two(out, &ONE_EMPTY, 2, &EXAMPLE, 3, &mut short)?;
-    other_rows(out)?;
-    two(out, &EXAMPLE, 2, &EXAMPLE, 3, &mut short)?;
-    two(out, &EXAMPLE, 2, &EXAMPLE, 3, &mut long)
+    let one_row_of_four = Case::new(&EXAMPLE, 1, 4, 3);
+    small(out, two(&EXAMPLE, 4), two(&EXAMPLE, 6), &mut [0; 4])?;
+    small(out, two(&EXAMPLE, 4), two(&ONE_EMPTY, 6), &mut [0; 3])?;
+    small(out, two(&EXAMPLE, 2), two(&ONE_EMPTY, 3), &mut [0; 4])?;
+    small(out, two(&ONE_EMPTY, 2), two(&EXAMPLE, 3), &mut [0; 3])?;
+    small(out, two(&EXAMPLE, 2), one_row_of_four, &mut [0; 4])?;
+    small(out, two(&EXAMPLE, 2), two(&EXAMPLE, 3), &mut [0; 3])?;
+    small(out, two(&EXAMPLE, 2), two(&EXAMPLE, 3), &mut [0; 5])
 }
 
 // An entry that is no block: of the second plan, before the shared divisor, and of both, with the place in the first.
 pub fn no_block(out: Stdout) -> io::Result<()> {
-    let mut joined = [0i16; 4];
-    two(out, &EXAMPLE, 2, &NO_ENTRY, 2, &mut joined)?;
-    two(out, &NO_ENTRY, 2, &NO_SECOND, 3, &mut joined)
+    small(out, two(&EXAMPLE, 2), two(&NO_ENTRY, 2), &mut [0; 4])?;
+    small(out, two(&NO_ENTRY, 2), two(&NO_SECOND, 3), &mut [0; 4])
 }

@@ -1,36 +1,23 @@
 // A matrix with P lowered below its largest voltage, by a tenth and by a quarter of that, so that voltages stand at or above P.
-use crate::say::{LARGEST, judged, number, say};
-use exponent::block;
+use crate::plan::Case;
+use crate::say::{LARGEST, judged};
 use std::io;
 use std::io::Stdout;
 
-// No entry reaches this lift: it leaves all as they are.
-pub const ABOVE_ALL: usize = 32768;
-
-fn largest(plan: &[i16]) -> usize {
-    let mut most = 0;
-    let mut place = 0;
-    while place < plan.len() {
-        let e = block::shift_of(block::entry_at(plan, ABOVE_ALL, place));
-        if most < e {
-            most = e;
-        }
-        place += 1;
-    }
-    most
+// The largest voltage, or 0.
+fn largest(entries: &[i16]) -> usize {
+    let most = entries.iter().copied().max().unwrap_or(0);
+    usize::try_from(most).unwrap_or(0)
 }
 
-// The verdict at the largest target, with P lowered.
-fn at(out: Stdout, plan: &[i16], rows: usize, cols: usize, lift: usize) -> io::Result<()> {
-    number(out, b" at P = ", lift)?;
-    say(out, b" ")?;
-    judged(out, plan, rows, cols, lift, LARGEST)
+// The verdict at the largest target, with P lowered, behind a mark.
+fn at(out: Stdout, mark: &str, plan: Case<'_>, lift: usize) -> io::Result<()> {
+    print!(out; "{mark} at P = {lift} ")?;
+    judged(out, plan.at(lift), LARGEST)
 }
 
-pub fn lowered(out: Stdout, plan: &[i16], rows: usize, cols: usize) -> io::Result<()> {
-    let most = largest(plan);
-    say(out, b";")?;
-    at(out, plan, rows, cols, most - most / 10)?;
-    say(out, b",")?;
-    at(out, plan, rows, cols, most - most / 4)
+pub fn lowered(out: Stdout, plan: Case<'_>) -> io::Result<()> {
+    let most = largest(plan.entries);
+    at(out, ";", plan, most - most / 10)?;
+    at(out, ",", plan, most - most / 4)
 }

@@ -8,7 +8,8 @@ mod flips; // flips.rt: rounds of bit flipping
 mod joins; // joins.rt: two plans made one
 mod lowered; // lowered.rt: a matrix with P lowered, so that voltages stand at or above it
 mod pairs; // pairs.rt: the girth test by sorted pairs
-mod say; // say.rt: what is written
+mod plan; // plan.rt: plans and lists of weights as they are passed on
+mod say; // say.rt: what is written of an answer
 mod source000; // source000.rt: the degree matrices of source 000
 mod source000_sts; // source000_sts.rt: the degree matrices of source 000 from Steiner triple systems
 mod source001; // source001.rt: the labelings of source 001
@@ -31,14 +32,9 @@ fn main(rt: HostRuntime) -> io::Result<()> {
     source002::example_one(out)?;
     source001::table_two(out)?;
     source001::girth_fourteen(out)?;
-    source000::table_two(out)?;
-    source000::table_three(out)?;
-    source000::table_four(out)?;
-    source000::table_five(out)?;
+    source000::tables(out)?;
     source000_sts::table_six(out)?;
-    steiner_plans::orders_seven_and_nine(out)?;
-    steiner_plans::orders_thirteen_and_fifteen(out)?;
-    steiner_plans::order_nineteen(out)?;
+    steiner_plans::orders(out)?;
     steiner_plans::turned_away(out)?;
     steiner_plans::negative(out)?;
     changes::small(out)?;
@@ -57,10 +53,7 @@ fn main(rt: HostRuntime) -> io::Result<()> {
     joins::turned_away(out)?;
     joins::no_block(out)?;
     encodings::small_plans(out)?;
-    source003::eight_columns(out)?;
-    source003::twelve_rows(out)?;
-    source003::six_rows(out)?;
-    source003::most_bits(out)?;
+    source003::frames(out)?;
     encodings::turned_away(out)?;
     flips::order_seven(out)?;
     flips::table_six(out)?;

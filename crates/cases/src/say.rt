@@ -1,96 +1,50 @@
-// What the test program writes: texts, numbers, refusals, verdicts.
-ghost use Rattle.std.specs.Prelude.{◌≤◌};
-
-use girth::Outcome;
-use refusal::{Refusal, numbers};
+// What the test program writes of an answer: refusals, verdicts, sizes.
+use crate::plan::Case;
+use refusal::Refusal;
 use std::io;
 use std::io::Stdout;
 
-pub fn say(out: Stdout, text: &[u8]) -> io::Result<()> {
-    out.write_all(text)
-}
-
-pub fn number(out: Stdout, label: &[u8], n: usize) -> io::Result<()> {
-    say(out, label)?;
-    out.print(n)
-}
-
 // A refusal: its number and its values.
-pub fn refused(out: Stdout, r: Refusal) -> io::Result<()> {
-    say(out, b"refused ")?;
-    out.print(numbers::number_of(r))?;
-    let values = numbers::values_of(r);
-    let count = values.count;
-    let places = values.places;
-    if 0 < count {
-        number(out, b" with ", places[0])?;
+pub fn refused(out: Stdout, why: Refusal) -> io::Result<()> {
+    print!(out; "refused {}", why.number())?;
+    match why {
+        Refusal::Entry(place)
+        | Refusal::NegativeEntry(place)
+        | Refusal::TextPlace(place)
+        | Refusal::Byte(place)
+        | Refusal::Erasure(place)
+        | Refusal::Token(place) => print!(out; " with {place}"),
+        Refusal::Unsound { i, k, r, t } => print!(out; " with {i} {k} {r} {t}"),
+        _ => Ok(()),
     }
-    if 3 < count {
-        number(out, b" ", places[1])?;
-        number(out, b" ", places[2])?;
-        number(out, b" ", places[3])?;
-    }
-    Ok(())
 }
 
 // The largest target: a plan that fails there shows its girth.
 pub const LARGEST: usize = 18;
 
 // The verdict at a target; of a plan that fails, its girth.
-pub fn judged(
-    out: Stdout,
-    plan: &[i16],
-    rows: usize,
-    cols: usize,
-    lift: usize,
-    target: usize,
-) -> io::Result<()> {
-    let t = girth::test(plan, rows, cols, lift, target);
-    let outcome = t.outcome;
-    match outcome {
-        Outcome::Passed => number(out, b"passes ", target),
-        Outcome::Failed => {
-            number(out, b"fails ", target)?;
-            number(out, b" with girth ", 2 * short(t.n))
-        }
-        Outcome::Refused(r) => refused(out, r),
+pub fn judged(out: Stdout, plan: Case<'_>, target: usize) -> io::Result<()> {
+    let s = plan.shape;
+    match girth::test(plan.entries, s.rows, s.cols, s.lift, target) {
+        Ok(None) => print!(out; "passes {target}"),
+        Ok(Some(cycle)) => { print!(out; "fails {target} with girth {}", 2 * cycle.n.min(LARGEST)) }
+        Err(r) => refused(out, r),
     }
 }
 
 // The verdicts at a target and, where it is below that, at the largest.
-pub fn verdicts(
-    out: Stdout,
-    plan: &[i16],
-    rows: usize,
-    cols: usize,
-    lift: usize,
-    target: usize,
-) -> io::Result<()> {
-    judged(out, plan, rows, cols, lift, target)?;
+pub fn verdicts(out: Stdout, plan: Case<'_>, target: usize) -> io::Result<()> {
+    judged(out, plan, target)?;
     if target < LARGEST {
-        say(out, b", ")?;
-        judged(out, plan, rows, cols, lift, LARGEST)?;
+        print!(out; ", ")?;
+        judged(out, plan, LARGEST)?;
     }
     Ok(())
 }
 
 // The sizes of a plan that was built, and its verdicts.
-pub fn built(
-    out: Stdout,
-    plan: &[i16],
-    rows: usize,
-    cols: usize,
-    lift: usize,
-    target: usize,
-) -> io::Result<()> {
-    number(out, b"", rows)?;
-    number(out, b" x ", cols)?;
-    say(out, b", ")?;
-    verdicts(out, plan, rows, cols, lift, target)
-}
-
-fn short(n: usize) -> usize
-    ensures { result ≤ 1000 }
-{
-    if n < 1000 { n } else { 1000 }
+pub fn built(out: Stdout, plan: Case<'_>, target: usize) -> io::Result<()> {
+    let s = plan.shape;
+    print!(out; "{} x {}, ", s.rows, s.cols)?;
+    verdicts(out, plan, target)
 }

@@ -3,7 +3,8 @@
 // first column's 0: each of its two rows in three lines, filled up with 0. Each is judged at its printed girth and at the largest target.
 ghost use Rattle.std.specs.Prelude.{◌≤◌, ◌<◌};
 
-use crate::say::{number, say, verdicts};
+use crate::plan::Case;
+use crate::say::verdicts;
 use std::io;
 use std::io::Stdout;
 
@@ -53,141 +54,206 @@ const STS_13: [[u8; 3]; 26] = [
     [2, 3, 12],
 ];
 
-pub const STS_9_M151: [[i16; 9]; 6] = [
-    [0, 0, 123, 36, 3, 2, 79, 4, 7],
-    [52, 4, 1, 0, 0, 0, 0, 0, 0],
-    [0, 0, 0, 0, 0, 0, 0, 0, 0],
-    [0, 0, 96, 23, 11, 1, 37, 12, 2],
-    [61, 1, 4, 0, 0, 0, 0, 0, 0],
-    [0, 0, 0, 0, 0, 0, 0, 0, 0],
-];
+// The base graphs.
+#[derive(Clone, Copy)]
+pub enum Base {
+    Sts9,
+    ShortSts13,
+    Sts13,
+}
 
-pub const S_STS_13_M486: [[i16; 9]; 6] = [
-    [0, 423, 0, 437, 5, 237, 235, 170, 333],
-    [260, 109, 241, 2, 114, 5, 2, 428, 92],
-    [228, 299, 0, 0, 0, 0, 0, 0, 0],
-    [0, 0, 0, 0, 445, 465, 51, 440, 22],
-    [111, 307, 433, 4, 285, 2, 1, 4, 113],
-    [282, 5, 0, 0, 0, 0, 0, 0, 0],
-];
+impl Base {
+    pub fn label(self) -> &'static str {
+        match self {
+            Base::Sts9 => "STS(9)",
+            Base::ShortSts13 => "S-STS(13)",
+            Base::Sts13 => "STS(13)",
+        }
+    }
 
-const STS_13_M1153: [[i16; 9]; 6] = [
-    [0, 1037, 0, 1051, 1105, 933, 1027, 962, 1000],
-    [665, 805, 646, 2, 906, 5, 2, 1095, 788],
-    [633, 913, 264, 51, 772, 672, 686, 737, 0],
-    [0, 0, 0, 0, 1112, 1132, 51, 1107, 22],
-    [807, 921, 1100, 4, 952, 2, 1, 4, 905],
-    [949, 5, 0, 1111, 922, 620, 351, 140, 0],
-];
+    // Points: the rows of a plan.
+    fn rows(self) -> usize
+        ensures { result ≤ 13 }
+    {
+        match self {
+            Base::Sts9 => 9,
+            Base::ShortSts13 => 12,
+            Base::Sts13 => 13,
+        }
+    }
 
-pub const STS_9_M665: [[i16; 9]; 6] = [
-    [0, 0, 468, 99, 3, 2, 305, 43, 9],
-    [251, 3, 2, 0, 0, 0, 0, 0, 0],
-    [0, 0, 0, 0, 0, 0, 0, 0, 0],
-    [0, 0, 351, 41, 6, 8, 215, 18, 1],
-    [79, 1, 8, 0, 0, 0, 0, 0, 0],
-    [0, 0, 0, 0, 0, 0, 0, 0, 0],
-];
+    // The triples that are columns of a plan.
+    fn cols(self) -> usize
+        ensures { result ≤ 26 }
+    {
+        match self {
+            Base::Sts9 => 12,
+            Base::ShortSts13 => 20,
+            Base::Sts13 => 26,
+        }
+    }
 
-const S_STS_13_M2562: [[i16; 9]; 6] = [
-    [0, 937, 0, 1551, 1264, 1670, 2119, 1973, 1960],
-    [1848, 1223, 1806, 15, 1761, 1, 2, 2175, 1169],
-    [1768, 548, 0, 0, 0, 0, 0, 0, 0],
-    [0, 0, 0, 0, 2367, 2491, 126, 2296, 66],
-    [1197, 582, 2200, 9, 1836, 2, 1, 0, 1757],
-    [1833, 4, 0, 0, 0, 0, 0, 0, 0],
-];
-
-pub const STS_9_M2723: [[i16; 9]; 6] = [
-    [0, 0, 853, 217, 6, 2, 1108, 75, 20],
-    [586, 1, 5, 0, 0, 0, 0, 0, 0],
-    [0, 0, 0, 0, 0, 0, 0, 0, 0],
-    [0, 0, 1797, 97, 3, 4, 485, 33, 37],
-    [246, 1, 5, 0, 0, 0, 0, 0, 0],
-    [0, 0, 0, 0, 0, 0, 0, 0, 0],
-];
-
-// Writes an entry in the row of a point, where the plan has the place.
-fn put(point: u8, cols: usize, j: usize, e: i16, plan: &mut [i16])
-    requires { (cols ≤ 26) × (j ≤ 26) }
-{
-    let place = point as usize * cols + j;
-    if place < plan.len() {
-        plan[place] = e;
+    fn triples(self) -> &'static [[u8; 3]] {
+        match self {
+            Base::Sts9 => &STS_9,
+            Base::ShortSts13 | Base::Sts13 => &STS_13,
+        }
     }
 }
 
-// Column j: two entries as printed, and 0 at the third point.
-fn put_column(triples: &[[u8; 3]], w: [[i16; 9]; 6], cols: usize, j: usize, plan: &mut [i16])
-    requires { (cols ≤ 26) × (j < 26) }
-{
-    if j < triples.len() {
-        let t = triples[j];
-        put(t[0], cols, j, w[j / 9][j % 9], plan);
-        put(t[1], cols, j, w[3 + j / 9][j % 9], plan);
-        put(t[2], cols, j, 0, plan);
-    }
-}
-
-fn put_columns(triples: &[[u8; 3]], w: [[i16; 9]; 6], cols: usize, plan: &mut [i16])
-    requires { cols ≤ 26 }
-{
-    for j in 0..cols {
-        put_column(triples, w, cols, j, plan);
-    }
-}
-
-// Judges a code at its girth and at the largest target; M = `lift`.
-fn code(
-    out: Stdout,
-    plan: &[i16],
-    rows: usize,
-    cols: usize,
+// A code: its base graph, its M, its girth, and W'.
+pub struct Code {
+    pub base: Base,
     lift: usize,
     girth: usize,
-) -> io::Result<()> {
-    number(out, b", M = ", lift)?;
-    say(out, b": ")?;
-    verdicts(out, plan, rows, cols, lift, girth)?;
-    say(out, b"\n")
+    w: [[i16; 9]; 6],
 }
 
-pub fn plan_of_9(w: [[i16; 9]; 6]) -> [i16; 108] {
-    let mut plan = [-1i16; 108];
-    put_columns(&STS_9, w, 12, &mut plan);
-    plan
+pub const STS_9_M151: Code = Code {
+    base: Base::Sts9,
+    lift: 151,
+    girth: 14,
+    w: [
+        [0, 0, 123, 36, 3, 2, 79, 4, 7],
+        [52, 4, 1, 0, 0, 0, 0, 0, 0],
+        [0, 0, 0, 0, 0, 0, 0, 0, 0],
+        [0, 0, 96, 23, 11, 1, 37, 12, 2],
+        [61, 1, 4, 0, 0, 0, 0, 0, 0],
+        [0, 0, 0, 0, 0, 0, 0, 0, 0],
+    ],
+};
+
+pub const S_STS_13_M486: Code = Code {
+    base: Base::ShortSts13,
+    lift: 486,
+    girth: 14,
+    w: [
+        [0, 423, 0, 437, 5, 237, 235, 170, 333],
+        [260, 109, 241, 2, 114, 5, 2, 428, 92],
+        [228, 299, 0, 0, 0, 0, 0, 0, 0],
+        [0, 0, 0, 0, 445, 465, 51, 440, 22],
+        [111, 307, 433, 4, 285, 2, 1, 4, 113],
+        [282, 5, 0, 0, 0, 0, 0, 0, 0],
+    ],
+};
+
+const STS_13_M1153: Code = Code {
+    base: Base::Sts13,
+    lift: 1153,
+    girth: 14,
+    w: [
+        [0, 1037, 0, 1051, 1105, 933, 1027, 962, 1000],
+        [665, 805, 646, 2, 906, 5, 2, 1095, 788],
+        [633, 913, 264, 51, 772, 672, 686, 737, 0],
+        [0, 0, 0, 0, 1112, 1132, 51, 1107, 22],
+        [807, 921, 1100, 4, 952, 2, 1, 4, 905],
+        [949, 5, 0, 1111, 922, 620, 351, 140, 0],
+    ],
+};
+
+pub const STS_9_M665: Code = Code {
+    base: Base::Sts9,
+    lift: 665,
+    girth: 16,
+    w: [
+        [0, 0, 468, 99, 3, 2, 305, 43, 9],
+        [251, 3, 2, 0, 0, 0, 0, 0, 0],
+        [0, 0, 0, 0, 0, 0, 0, 0, 0],
+        [0, 0, 351, 41, 6, 8, 215, 18, 1],
+        [79, 1, 8, 0, 0, 0, 0, 0, 0],
+        [0, 0, 0, 0, 0, 0, 0, 0, 0],
+    ],
+};
+
+const S_STS_13_M2562: Code = Code {
+    base: Base::ShortSts13,
+    lift: 2562,
+    girth: 16,
+    w: [
+        [0, 937, 0, 1551, 1264, 1670, 2119, 1973, 1960],
+        [1848, 1223, 1806, 15, 1761, 1, 2, 2175, 1169],
+        [1768, 548, 0, 0, 0, 0, 0, 0, 0],
+        [0, 0, 0, 0, 2367, 2491, 126, 2296, 66],
+        [1197, 582, 2200, 9, 1836, 2, 1, 0, 1757],
+        [1833, 4, 0, 0, 0, 0, 0, 0, 0],
+    ],
+};
+
+pub const STS_9_M2723: Code = Code {
+    base: Base::Sts9,
+    lift: 2723,
+    girth: 18,
+    w: [
+        [0, 0, 853, 217, 6, 2, 1108, 75, 20],
+        [586, 1, 5, 0, 0, 0, 0, 0, 0],
+        [0, 0, 0, 0, 0, 0, 0, 0, 0],
+        [0, 0, 1797, 97, 3, 4, 485, 33, 37],
+        [246, 1, 5, 0, 0, 0, 0, 0, 0],
+        [0, 0, 0, 0, 0, 0, 0, 0, 0],
+    ],
+};
+
+// Writes an entry in the row of a point, where the plan has the place.
+fn put(point: u8, cols: usize, j: usize, e: i16, entries: &mut [i16])
+    requires { (cols ≤ 26) × (j ≤ 26) }
+{
+    if let Some(place) = entries.get_mut(usize::from(point) * cols + j) {
+        *place = e;
+    }
 }
 
-pub fn shortened_plan_of_13(w: [[i16; 9]; 6]) -> [i16; 240] {
-    let mut plan = [-1i16; 240];
-    put_columns(&STS_13, w, 20, &mut plan);
-    plan
+// Places enough for the entries of each plan.
+pub const PLACES: usize = 338;
+
+impl Code {
+    // Column j: two entries as printed, and 0 at the third point.
+    fn put_column(&self, j: usize, entries: &mut [i16])
+        requires { j < 26 }
+    {
+        let cols = self.base.cols();
+        if let Some(t) = self.base.triples().get(j) {
+            put(t[0], cols, j, self.w[j / 9][j % 9], entries);
+            put(t[1], cols, j, self.w[3 + j / 9][j % 9], entries);
+            put(t[2], cols, j, 0, entries);
+        }
+    }
+
+    // The entries of the plan, row by row, and -1 behind them.
+    pub fn entries(&self) -> [i16; PLACES] {
+        let mut entries = [-1i16; PLACES];
+        for j in 0..self.base.cols() {
+            self.put_column(j, &mut entries);
+        }
+        entries
+    }
+
+    // The plan over its entries.
+    pub fn plan<'a>(&self, entries: &'a [i16; PLACES]) -> Case<'a> {
+        let rows = self.base.rows();
+        let cols = self.base.cols();
+        Case::new(&entries[..rows * cols], rows, cols, self.lift)
+    }
 }
 
-fn sts_9(out: Stdout, lift: usize, girth: usize, w: [[i16; 9]; 6]) -> io::Result<()> {
-    let plan = plan_of_9(w);
-    say(out, b"000 table VI STS(9)")?;
-    code(out, &plan, 9, 12, lift, girth)
-}
-
-fn s_sts_13(out: Stdout, lift: usize, girth: usize, w: [[i16; 9]; 6]) -> io::Result<()> {
-    let plan = shortened_plan_of_13(w);
-    say(out, b"000 table VI S-STS(13)")?;
-    code(out, &plan, 12, 20, lift, girth)
-}
-
-fn sts_13(out: Stdout, lift: usize, girth: usize, w: [[i16; 9]; 6]) -> io::Result<()> {
-    let mut plan = [-1i16; 338];
-    put_columns(&STS_13, w, 26, &mut plan);
-    say(out, b"000 table VI STS(13)")?;
-    code(out, &plan, 13, 26, lift, girth)
+// Judges a code at its girth and at the largest target.
+fn judge(out: Stdout, code: &Code) -> io::Result<()> {
+    let entries = code.entries();
+    let label = code.base.label();
+    print!(out; "000 table VI {label}, M = {}: ", code.lift)?;
+    verdicts(out, code.plan(&entries), code.girth)?;
+    println!(out)
 }
 
 pub fn table_six(out: Stdout) -> io::Result<()> {
-    sts_9(out, 151, 14, STS_9_M151)?;
-    s_sts_13(out, 486, 14, S_STS_13_M486)?;
-    sts_13(out, 1153, 14, STS_13_M1153)?;
-    sts_9(out, 665, 16, STS_9_M665)?;
-    s_sts_13(out, 2562, 16, S_STS_13_M2562)?;
-    sts_9(out, 2723, 18, STS_9_M2723)
+    for code in [
+        &STS_9_M151,
+        &S_STS_13_M486,
+        &STS_13_M1153,
+        &STS_9_M665,
+        &S_STS_13_M2562,
+        &STS_9_M2723,
+    ] {
+        judge(out, code)?;
+    }
+    Ok(())
 }

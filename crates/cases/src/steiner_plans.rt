@@ -1,147 +1,109 @@
 // Steiner triple plans of each order (document 02, slip 6): sizes, verdicts, entries and weights, and each refusal of the builder.
-use crate::say::{built, number, refused, say};
+ghost use Rattle.std.specs.Prelude.{◌≤◌};
+
+use crate::plan::{Case, Weights};
+use crate::say::{built, refused};
 use crate::weights_of::both;
 use exponent::block;
 use exponent::block::Block;
-use square::signed;
 use std::io;
 use std::io::Stdout;
-use table::Built;
 
-// One voltage for each place.
-pub fn fill(voltages: &mut [i16]) {
-    for k in 0..voltages.len() {
-        voltages[k] = signed::make(true, k % 1000 * 37 % 1009);
+// A voltage for each of N places, below 1,009.
+pub fn voltages<const N: usize>() -> [i16; N] {
+    let mut voltages = [0i16; N];
+    for (k, voltage) in voltages.iter_mut().enumerate() {
+        *voltage = (k % 1000 * 37 % 1009) as i16;
     }
+    voltages
 }
 
-pub fn show_entry(out: Stdout, b: Block) -> io::Result<()> {
-    match b {
-        Block::Shift(e) => number(out, b" ", e),
-        Block::Zero => say(out, b" ."),
-        Block::Invalid => say(out, b" ?"),
+// A blank and the block of an entry.
+pub fn show_entry(out: Stdout, entry: i16, lift: usize) -> io::Result<()> {
+    match block::entry(entry, lift) {
+        Block::Shift(e) => print!(out; " {e}"),
+        Block::Zero => print!(out; " ."),
+        Block::Invalid => print!(out; " ?"),
     }
 }
 
 // The entries, with a line for each row.
-fn show(out: Stdout, plan: &[i16], cols: usize, lift: usize) -> io::Result<()> {
-    let mut left = cols;
-    for place in 0..plan.len() {
-        show_entry(out, block::entry_at(plan, lift, place))?;
-        if left < 2 {
-            say(out, b"\n")?;
-            left = cols;
-        } else {
-            left = left - 1;
+fn show(out: Stdout, plan: Case<'_>) -> io::Result<()> {
+    for row in plan.entries.chunks(plan.shape.cols.max(1)) {
+        for entry in row {
+            show_entry(out, *entry, plan.shape.lift)?;
         }
+        println!(out)?;
     }
     Ok(())
 }
 
-// Builds a plan in a lent place and says what came of it.
-fn build(
+// Builds a plan in places of these sizes and says what came of it.
+// Stays: three arrays, not a `Weighed`; tried, and that a `Weighed` of any sizes fits in memory was not proved.
+fn build<const N: usize, const R: usize, const C: usize>(
     out: Stdout,
     order: usize,
     lift: usize,
     voltages: &[i16],
-    plan: &mut [i16],
-    byrow: &mut [u16],
-    bycol: &mut [u16],
-) -> io::Result<()> {
-    number(out, b"steiner ", order)?;
-    number(out, b", P = ", lift)?;
-    say(out, b": ")?;
-    match steiner::build(order, lift, voltages, plan, byrow, bycol) {
-        Built::Refused(r) => refused(out, r)?,
-        Built::Built { rows, cols } => {
-            built(out, plan, rows, cols, lift, 6)?;
-            say(out, b"\n")?;
-            show(out, plan, cols, lift)?;
-            both(out, byrow, bycol)?;
+) -> io::Result<()>
+    requires { (N ≤ 65536) × (R ≤ 65536) × (C ≤ 65536) }
+{
+    let mut entries = [0i16; N];
+    let mut by_row = [0u16; R];
+    let mut by_col = [0u16; C];
+    print!(out; "steiner {order}, P = {lift}: ")?;
+    match steiner::build(
+        order,
+        lift,
+        voltages,
+        &mut entries,
+        &mut by_row,
+        &mut by_col,
+    ) {
+        Err(r) => refused(out, r)?,
+        Ok(s) => {
+            let plan = Case::new(&entries, s.rows, s.cols, lift);
+            built(out, plan, 6)?;
+            println!(out)?;
+            show(out, plan)?;
+            both(out, Weights::new(&by_row, &by_col))?;
         }
     }
-    say(out, b"\n")
+    println!(out)
 }
 
-pub fn orders_seven_and_nine(out: Stdout) -> io::Result<()> {
-    let mut seven = [0i16; 21];
-    let mut plan = [0i16; 49];
-    let mut byrow = [0u16; 7];
-    let mut bycol = [0u16; 7];
-    fill(&mut seven);
-    build(out, 7, 1, &seven, &mut plan, &mut byrow, &mut bycol)?;
-    build(out, 7, 40, &seven, &mut plan, &mut byrow, &mut bycol)?;
-    let mut nine = [0i16; 36];
-    let mut place = [0i16; 108];
-    let mut points = [0u16; 9];
-    let mut triples = [0u16; 12];
-    fill(&mut nine);
-    build(out, 9, 4096, &nine, &mut place, &mut points, &mut triples)
-}
-
-pub fn orders_thirteen_and_fifteen(out: Stdout) -> io::Result<()> {
-    let mut thirteen = [0i16; 78];
-    let mut plan = [0i16; 338];
-    let mut byrow = [0u16; 13];
-    let mut bycol = [0u16; 26];
-    fill(&mut thirteen);
-    build(out, 13, 2520, &thirteen, &mut plan, &mut byrow, &mut bycol)?;
-    let mut fifteen = [0i16; 105];
-    let mut place = [0i16; 525];
-    let mut points = [0u16; 15];
-    let mut triples = [0u16; 35];
-    fill(&mut fifteen);
-    build(
-        out,
-        15,
-        1872,
-        &fifteen,
-        &mut place,
-        &mut points,
-        &mut triples,
-    )
-}
-
-pub fn order_nineteen(out: Stdout) -> io::Result<()> {
-    let mut voltages = [0i16; 171];
-    let mut plan = [0i16; 1083];
-    let mut byrow = [0u16; 19];
-    let mut bycol = [0u16; 57];
-    fill(&mut voltages);
-    build(out, 19, 1149, &voltages, &mut plan, &mut byrow, &mut bycol)?;
-    build(out, 19, 1150, &voltages, &mut plan, &mut byrow, &mut bycol)
+pub fn orders(out: Stdout) -> io::Result<()> {
+    build::<49, 7, 7>(out, 7, 1, &voltages::<21>())?;
+    build::<49, 7, 7>(out, 7, 40, &voltages::<21>())?;
+    build::<108, 9, 12>(out, 9, 4096, &voltages::<36>())?;
+    build::<338, 13, 26>(out, 13, 2520, &voltages::<78>())?;
+    build::<525, 15, 35>(out, 15, 1872, &voltages::<105>())?;
+    build::<1083, 19, 57>(out, 19, 1149, &voltages::<171>())?;
+    build::<1083, 19, 57>(out, 19, 1150, &voltages::<171>())
 }
 
 // The lift, the order and the lengths, those of the weights last.
 pub fn turned_away(out: Stdout) -> io::Result<()> {
-    let voltages = [0i16; 21];
+    let zeros = [0i16; 21];
     let few = [0i16; 20];
-    let mut plan = [0i16; 49];
-    let mut byrow = [0u16; 7];
-    let mut bycol = [0u16; 7];
-    let mut short = [0i16; 48];
-    build(out, 7, 0, &voltages, &mut plan, &mut byrow, &mut bycol)?;
-    build(out, 8, 4097, &voltages, &mut plan, &mut byrow, &mut bycol)?;
-    build(out, 8, 4096, &voltages, &mut plan, &mut byrow, &mut bycol)?;
-    build(out, 9, 40, &voltages, &mut plan, &mut byrow, &mut bycol)?;
-    build(out, 7, 40, &few, &mut plan, &mut byrow, &mut bycol)?;
-    build(out, 7, 40, &voltages, &mut short, &mut byrow, &mut bycol)?;
-    let mut fewer = [0u16; 6];
-    build(out, 7, 40, &voltages, &mut plan, &mut fewer, &mut bycol)?;
-    build(out, 7, 40, &voltages, &mut plan, &mut byrow, &mut fewer)?;
-    build(out, 8, 40, &voltages, &mut plan, &mut byrow, &mut fewer)?;
-    build(out, 7, 40, &few, &mut plan, &mut byrow, &mut fewer)
+    build::<49, 7, 7>(out, 7, 0, &zeros)?;
+    build::<49, 7, 7>(out, 8, 4097, &zeros)?;
+    build::<49, 7, 7>(out, 8, 4096, &zeros)?;
+    build::<49, 7, 7>(out, 9, 40, &zeros)?;
+    build::<49, 7, 7>(out, 7, 40, &few)?;
+    build::<48, 7, 7>(out, 7, 40, &zeros)?;
+    build::<49, 6, 7>(out, 7, 40, &zeros)?;
+    build::<49, 7, 6>(out, 7, 40, &zeros)?;
+    build::<49, 7, 6>(out, 8, 40, &zeros)?;
+    build::<49, 7, 6>(out, 7, 40, &few)
 }
 
 // A negative voltage, whatever the order and the lengths, unless the plan would have too many bits.
 pub fn negative(out: Stdout) -> io::Result<()> {
     let mut voltages = [0i16; 21];
-    let mut plan = [0i16; 49];
-    let mut byrow = [0u16; 7];
-    let mut bycol = [0u16; 7];
     voltages[20] = -1;
-    build(out, 19, 1149, &voltages, &mut plan, &mut byrow, &mut bycol)?;
-    build(out, 15, 1873, &voltages, &mut plan, &mut byrow, &mut bycol)?;
+    build::<49, 7, 7>(out, 19, 1149, &voltages)?;
+    build::<49, 7, 7>(out, 15, 1873, &voltages)?;
     voltages[5] = -7;
-    build(out, 8, 40, &voltages, &mut plan, &mut byrow, &mut bycol)
+    build::<49, 7, 7>(out, 8, 40, &voltages)
 }

@@ -1,38 +1,40 @@
 // alist text: the plan of the bench cases, and a call for others.
-use crate::say::{refused, say};
-use alist::{Comparison, Written};
+use crate::plan::{Case, Weights};
+use crate::say::refused;
+use refusal::Refusal;
 use std::io;
 use std::io::Stdout;
+
+// Writes a plan's alist into a lent place. The text, or the refusal.
+fn alist_in<'a>(
+    text: &'a mut [u8],
+    plan: Case<'_>,
+    weights: Weights<'_>,
+) -> Result<&'a [u8], Refusal> {
+    let s = plan.shape;
+    let length = alist::write(
+        plan.entries,
+        s.rows,
+        s.cols,
+        s.lift,
+        weights.rows,
+        weights.cols,
+        text,
+    )?;
+    Ok(text.get(..length).unwrap_or(&[]))
+}
 
 // Bytes enough for the longest text here.
 const ROOM: usize = 256;
 
-// Writes the first bytes of a text.
-fn say_first(out: Stdout, text: [u8; ROOM], length: usize) -> io::Result<()> {
-    if length <= ROOM {
-        say(out, &text[0..length])
-    } else {
-        Ok(())
-    }
-}
-
 // Writes the alist of a plan.
-pub fn alist_of(
-    out: Stdout,
-    plan: &[i16],
-    rows: usize,
-    cols: usize,
-    lift: usize,
-    byrow: &[u16],
-    bycol: &[u16],
-) -> io::Result<()> {
+pub fn alist_of(out: Stdout, plan: Case<'_>, weights: Weights<'_>) -> io::Result<()> {
     let mut text = [0u8; ROOM];
-    let written = alist::write(plan, rows, cols, lift, byrow, bycol, &mut text);
-    match written {
-        Written::Written(length) => say_first(out, text, length),
-        Written::Refused(r) => {
+    match alist_in(&mut text, plan, weights) {
+        Ok(alist) => out.write_all(alist),
+        Err(r) => {
             refused(out, r)?;
-            say(out, b"\n")
+            println!(out)
         }
     }
 }
@@ -43,49 +45,40 @@ const LARGE: usize = 65536;
 // Writes the alist of a plan, and says whether it is that of another one with the same weights.
 pub fn same_text(
     out: Stdout,
-    plan: &[i16],
-    other: &[i16],
-    rows: usize,
-    cols: usize,
-    lift: usize,
-    byrow: &[u16],
-    bycol: &[u16],
+    plan: Case<'_>,
+    other: Case<'_>,
+    weights: Weights<'_>,
 ) -> io::Result<()> {
     let mut text = [0u8; LARGE];
-    let written = alist::write(plan, rows, cols, lift, byrow, bycol, &mut text);
-    match written {
-        Written::Written(length) => agreeing(
-            out, other, rows, cols, lift, byrow, bycol, &text, length,
-        ),
-        Written::Refused(r) => refused(out, r),
+    match alist_in(&mut text, plan, weights) {
+        Ok(alist) => agreeing(out, other, weights, alist),
+        Err(r) => refused(out, r),
     }
 }
 
-// Compares the first bytes of a text with the alist of a plan.
-fn agreeing(
-    out: Stdout,
-    plan: &[i16],
-    rows: usize,
-    cols: usize,
-    lift: usize,
-    byrow: &[u16],
-    bycol: &[u16],
-    text: &[u8],
-    length: usize,
-) -> io::Result<()> {
-    if length <= text.len() {
-        let compared = alist::compare(plan, rows, cols, lift, byrow, bycol, &text[0..length]);
-        match compared {
-            Comparison::Agrees => say(out, b"the same text"),
-            Comparison::Refused(r) => refused(out, r),
-        }
-    } else {
-        Ok(())
+// Compares a text with the alist of a plan.
+fn agreeing(out: Stdout, plan: Case<'_>, weights: Weights<'_>, text: &[u8]) -> io::Result<()> {
+    let s = plan.shape;
+    match alist::compare(
+        plan.entries,
+        s.rows,
+        s.cols,
+        s.lift,
+        weights.rows,
+        weights.cols,
+        text,
+    ) {
+        Ok(()) => print!(out; "the same text"),
+        Err(r) => refused(out, r),
     }
 }
 
 // The one-row plan 0 1 of the bench cases.
 pub fn one_row(out: Stdout) -> io::Result<()> {
-    say(out, b"alist of 0 1, P = 2:\n")?;
-    alist_of(out, &[0, 1], 1, 2, 2, &[2], &[1, 1])
+    println!(out; "alist of 0 1, P = 2:")?;
+    alist_of(
+        out,
+        Case::new(&[0, 1], 1, 2, 2),
+        Weights::new(&[2], &[1, 1]),
+    )
 }

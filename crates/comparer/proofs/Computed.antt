@@ -3,7 +3,7 @@ use Prim.Native.Nat.{ℕ}
 use Prim.Native.String.{String}
 use mathlib.Core.Path.{◌≡◌, refl}
 use mathlib.Core.List.{◌++◌}
-use mathlib.Core.Option.{Option, none, some}
+use Rattle.std.specs.Prelude.{Option, None, Some}
 use Rattle.graph.specs.Count.{range, select}
 use Rattle.graph.specs.Graph.{Bipartite, bits_of, checks_of}
 use Rattle.exponent.specs.Plan.{entry_at, block_at}
@@ -26,15 +26,15 @@ short_begin = "2 1\n1 1\n1 0\n1\n1\n"
 
 pub record ShortTexts : Type 0 where
   -- the list padded; ended by its line; with blanks before line feeds
-  pub padded : Shows (tanner short 1 2 1) short_begin "0\n1\n" none
-  pub ended : Shows (tanner short 1 2 1) short_begin "\n1\n" none
-  pub blanks_before : Shows (tanner short 1 2 1) short_begin " \r\n\t1\r\n " none
+  pub padded : Shows (tanner short 1 2 1) short_begin "0\n1\n" None
+  pub ended : Shows (tanner short 1 2 1) short_begin "\n1\n" None
+  pub blanks_before : Shows (tanner short 1 2 1) short_begin " \r\n\t1\r\n " None
   -- without the last line feed: the padded form departs at 17, the unpadded one at the text's end
-  pub last_missing : Shows (tanner short 1 2 1) short_begin "\n1" (some 18)
+  pub last_missing : Shows (tanner short 1 2 1) short_begin "\n1" (Some 18)
   -- with one line feed more: the padded form departs at 17, the unpadded one at that line feed
-  pub one_more : Shows (tanner short 1 2 1) short_begin "\n1\n\n" (some 19)
+  pub one_more : Shows (tanner short 1 2 1) short_begin "\n1\n\n" (Some 19)
   -- a zero and then a wrong number: the padded form departs at 18, the unpadded one at the zero
-  pub wrong_later : Shows (tanner short 1 2 1) short_begin "0\n2\n" (some 18)
+  pub wrong_later : Shows (tanner short 1 2 1) short_begin "0\n2\n" (Some 18)
 
 pub short_texts : ShortTexts
 unfolding departs departs_in items_of lines_in lists degrees greatest fill bits_of checks_of tanner select range block_at entry_at mismatch blank between blanks token start token_at same decimal digits
@@ -45,11 +45,11 @@ abbrev corner_begin : String
 corner_begin = "2 2\n2 2\n2 1\n2 1\n1 2\n"
 
 pub record CornerTexts : Type 0 where
-  pub padded : Shows (tanner corner 2 2 1) corner_begin "1 0\n1 2\n1 0\n" none
-  pub ended : Shows (tanner corner 2 2 1) corner_begin "1\n1 2\n1\n" none
+  pub padded : Shows (tanner corner 2 2 1) corner_begin "1 0\n1 2\n1 0\n" None
+  pub ended : Shows (tanner corner 2 2 1) corner_begin "1\n1 2\n1\n" None
   -- mixtures agree with neither form: the bit's list ended and the check's padded, and the other way round
-  pub check_padded : Shows (tanner corner 2 2 1) corner_begin "1\n1 2\n1 0\n" (some 28)
-  pub bit_padded : Shows (tanner corner 2 2 1) corner_begin "1 0\n1 2\n1\n" (some 30)
+  pub check_padded : Shows (tanner corner 2 2 1) corner_begin "1\n1 2\n1 0\n" (Some 28)
+  pub bit_padded : Shows (tanner corner 2 2 1) corner_begin "1 0\n1 2\n1\n" (Some 30)
 
 pub corner_texts : CornerTexts
 unfolding departs departs_in items_of lines_in lists degrees greatest fill bits_of checks_of tanner select range block_at entry_at mismatch blank between blanks token start token_at same decimal digits

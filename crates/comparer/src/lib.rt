@@ -2,6 +2,7 @@
 #![tactic(auto)]
 
 ghost use Rattle.std.specs.Prelude.{◌≡◌, ◌++◌, map, ◌≤◌, max, length};
+ghost use Rattle.refusal.specs.Answer.{ok_unless};
 ghost use Rattle.exponent.specs.Limits.{WellFormed};
 ghost use Rattle.exponent.specs.Tanner.{graph_of};
 ghost use Rattle.tokens.specs.Tokens.{numeral, ending, mismatch};
@@ -9,28 +10,22 @@ ghost use Rattle.tokens.specs.Steps.{read_line, mismatch_after};
 ghost use Rattle.weights.specs.Weights.{Weighed};
 ghost use Rattle.lines.specs.Lines.{line_in, Measured, InLine};
 ghost use Rattle.lines.specs.Text.{line_items, items_of};
-ghost use Rattle.comparer.specs.Verdict.{departs_in, departs, verdict};
+ghost use Rattle.comparer.specs.Verdict.{departs_in, departs};
 ghost use Rattle.comparer.specs.Later.{later_lines};
 
 use exponent::Shape;
 use lines::{Layout, Line, generate, sides};
-use tokens::{Cursor, Form, Step};
+use tokens::{Cursor, Form};
 use weights::Side;
 
 mod reader; // reader.rt: a lent text, and how far reading has come in it
 
-// The text is the alist; or it differs first at this place.
-#[derive(Clone, Copy)]
-pub enum Verdict {
-    Same,
-    Differs(usize),
-}
-
 // Holds the next tokens to the numbers of a line.
+#[tactic(auto, using(tokens::proofs::Reading::expect_le, tokens::proofs::Reading::read_next, tokens::proofs::Reading::read_end, lines::proofs::Rest::line_start, lines::proofs::Rest::line_end, lines::proofs::Rest::width_le))]
 fn expect_numbers(
     text: &[u8],
     form: Form,
-    c: Cursor,
+    mut c: Cursor,
     plan: &[i16],
     byrow: &[u16],
     bycol: &[u16],
@@ -38,27 +33,21 @@ fn expect_numbers(
     along: &[u16],
     l: Layout,
     line: Line,
-) -> Step
+) -> Result<Cursor, usize>
     requires { Measured plan.now l down.now along.now × Weighed plan.now l.shape byrow.now bycol.now × InLine l line × (c.at ≤ length text.now) }
     ensures { result ≡ read_line form text.now c.at (map numeral (line_in form (graph_of plan.now l.shape) line)) }
 {
-    let w = lines::width(byrow, bycol, l, form, line);
-    let mut at = c.at;
-    let mut k = 0;
     let mut from = 0;
-    while k < w {
+    for k in 0..lines::width(byrow, bycol, l, form, line) {
         let n = generate::number_at(plan, down, along, byrow, bycol, l, line, k, from);
-        match tokens::expect_number(text, form, Cursor { at }, n.value) {
-            Step::Next(next) => at = next.at,
-            Step::Wrong(p) => return Step::Wrong(p),
-        }
+        c = tokens::expect_number(text, form, c, n.value)?;
         from = n.next;
-        k += 1;
     }
-    Step::Next(Cursor { at })
+    Ok(c)
 }
 
 // Holds the next tokens to a line: its numbers and, in the unpadded form, its end.
+#[tactic(auto, using(tokens::proofs::Reading::line_append))]
 fn expect_line(
     text: &[u8],
     form: Form,
@@ -70,7 +59,7 @@ fn expect_line(
     along: &[u16],
     l: Layout,
     line: Line,
-) -> Step
+) -> Result<Cursor, usize>
     requires { Measured plan.now l down.now along.now × Weighed plan.now l.shape byrow.now bycol.now × InLine l line × (c.at ≤ length text.now) }
     ensures { result ≡ read_line form text.now c.at (line_items form (line_in form (graph_of plan.now l.shape) line)) }
 {
@@ -79,51 +68,35 @@ fn expect_line(
 }
 
 // Holds the tokens from a place on to the lines behind the first; after them no token may follow.
+#[tactic(auto, using(tokens::proofs::Reading::line_le, crate::proofs::Reading::line_right, crate::proofs::Reading::extra, crate::proofs::Reading::agrees, crate::proofs::Reading::lines_later, lines::proofs::Rest::lines_next, lines::proofs::Rest::lines_end))]
 fn compare_lines(
     text: &[u8],
     form: Form,
-    c: Cursor,
+    mut c: Cursor,
     plan: &[i16],
     byrow: &[u16],
     bycol: &[u16],
     down: &[u16],
     along: &[u16],
     l: Layout,
-) -> Verdict
+) -> Result<(), usize>
     requires { Measured plan.now l down.now along.now × Weighed plan.now l.shape byrow.now bycol.now × (c.at ≤ length text.now) }
-    ensures { result ≡ verdict (mismatch form text.now c.at (items_of form (later_lines form (graph_of plan.now l.shape)))) }
+    ensures { result ≡ ok_unless (mismatch form text.now c.at (items_of form (later_lines form (graph_of plan.now l.shape)))) }
 {
-    let count = lines::line_count(l);
-    let mut at = c.at;
-    let mut i = 1;
-    while i < count {
+    for i in 1..lines::line_count(l) {
         let line = lines::line_at(l, i);
-        match expect_line(
-            text,
-            form,
-            Cursor { at },
-            plan,
-            byrow,
-            bycol,
-            down,
-            along,
-            l,
-            line,
-        ) {
-            Step::Next(next) => at = next.at,
-            Step::Wrong(p) => return Verdict::Differs(p),
-        }
-        i += 1;
+        c = expect_line(text, form, c, plan, byrow, bycol, down, along, l, line)?;
     }
-    let s = tokens::skip(text, form, at);
-    if s < text.len() {
-        Verdict::Differs(s)
+    let extra = tokens::skip(text, form, c.at);
+    if extra < text.len() {
+        Err(extra)
     } else {
-        Verdict::Same
+        Ok(())
     }
 }
 
 // Compares a text, from a place on, with the lines of a valid plan behind the first.
+#[tactic(auto, using(lines::proofs::Weights::laid_measured, lines::proofs::Weights::laid_weighed))]
 fn compare_from(
     text: &[u8],
     form: Form,
@@ -132,9 +105,9 @@ fn compare_from(
     byrow: &[u16],
     bycol: &[u16],
     s: Shape,
-) -> Verdict
+) -> Result<(), usize>
     requires { WellFormed plan.now s.rows s.cols s.lift × Weighed plan.now s byrow.now bycol.now × (c.at ≤ length text.now) }
-    ensures { result ≡ verdict (mismatch form text.now c.at (items_of form (later_lines form (graph_of plan.now s)))) }
+    ensures { result ≡ ok_unless (mismatch form text.now c.at (items_of form (later_lines form (graph_of plan.now s)))) }
 {
     let mut down = [0u16; index::PLACES];
     let mut along = [0u16; index::PLACES];
@@ -145,31 +118,29 @@ fn compare_from(
 
 // The same behind the numbers of the first line, from any place: the end of that line comes next. A wrong step decides, and past the
 // text's end the first number is missing.
+#[tactic(auto, using(crate::proofs::Reading::past_end, tokens::proofs::Reading::after_items))]
 fn compare_after(
     text: &[u8],
     form: Form,
-    step: Step,
+    step: Result<Cursor, usize>,
     plan: &[i16],
     byrow: &[u16],
     bycol: &[u16],
     s: Shape,
-) -> Verdict
+) -> Result<(), usize>
     requires { WellFormed plan.now s.rows s.cols s.lift × Weighed plan.now s byrow.now bycol.now }
-    ensures { result ≡ verdict (mismatch_after form text.now step (ending form ++ items_of form (later_lines form (graph_of plan.now s)))) }
+    ensures { result ≡ ok_unless (mismatch_after form text.now step (ending form ++ items_of form (later_lines form (graph_of plan.now s)))) }
 {
-    match tokens::end_line(text, form, step) {
-        Step::Next(c) => {
-            let at = c.at;
-            if text.len() < at {
-                return Verdict::Differs(at);
-            }
-            compare_from(text, form, c, plan, byrow, bycol, s)
-        }
-        Step::Wrong(p) => Verdict::Differs(p),
+    let c = tokens::end_line(text, form, step)?;
+    if text.len() < c.at {
+        Err(c.at)
+    } else {
+        compare_from(text, form, c, plan, byrow, bycol, s)
     }
 }
 
 // Compares a text with the alist of a valid plan in a form: the two sizes of its first line are read first.
+#[tactic(auto, using(crate::proofs::Reading::first_line), unfolding(crate::specs::Verdict::departs_in))]
 fn compare_in(
     text: &[u8],
     form: Form,
@@ -177,35 +148,27 @@ fn compare_in(
     byrow: &[u16],
     bycol: &[u16],
     s: Shape,
-) -> Verdict
+) -> Result<(), usize>
     requires { WellFormed plan.now s.rows s.cols s.lift × Weighed plan.now s byrow.now bycol.now }
-    ensures { result ≡ verdict (departs_in form text.now (graph_of plan.now s)) }
+    ensures { result ≡ ok_unless (departs_in form text.now (graph_of plan.now s)) }
 {
     let bits = sides::node_count(s, Side::Bits);
     let checks = sides::node_count(s, Side::Checks);
     reader::read_alist(text, form, bits, checks, plan, byrow, bycol, s)
 }
 
-// The later of two places.
-fn later_of(p: usize, q: usize) -> usize
-    ensures { result ≡ max p q }
-{
-    if p < q {
-        return q;
-    }
-    p
-}
-
 // Compares a text with the alist of a valid plan with its weights, in the padded form and, where it differs from that, in the unpadded one.
-pub fn compare(text: &[u8], plan: &[i16], byrow: &[u16], bycol: &[u16], s: Shape) -> Verdict
+pub fn compare(
+    text: &[u8],
+    plan: &[i16],
+    byrow: &[u16],
+    bycol: &[u16],
+    s: Shape,
+) -> Result<(), usize>
     requires { WellFormed plan.now s.rows s.cols s.lift × Weighed plan.now s byrow.now bycol.now }
-    ensures { result ≡ verdict (departs text.now (graph_of plan.now s)) }
+    ensures { result ≡ ok_unless (departs text.now (graph_of plan.now s)) }
 {
-    match compare_in(text, Form::Padded, plan, byrow, bycol, s) {
-        Verdict::Same => Verdict::Same,
-        Verdict::Differs(p) => match compare_in(text, Form::Unpadded, plan, byrow, bycol, s) {
-            Verdict::Same => Verdict::Same,
-            Verdict::Differs(q) => Verdict::Differs(later_of(p, q)),
-        },
-    }
+    compare_in(text, Form::Padded, plan, byrow, bycol, s).or_else(|p| {
+        compare_in(text, Form::Unpadded, plan, byrow, bycol, s).map_err(|q| p.max(q))
+    })
 }

@@ -3,7 +3,7 @@ use Prim.Native.Nat.{ℕ}
 use mathlib.Core.Path.{◌≡◌, refl}
 use mathlib.Core.Bool.{true, false}
 use mathlib.Core.List.{List, [], ◌∷◌, map}
-use mathlib.Core.Option.{Option, none, some}
+use Rattle.std.specs.Prelude.{Option, None, Some}
 use lib.IntN.{ℤ, pos, negsuc}
 use Rattle.refusal.specs.declared.Refusal.{Refusal}
 use Rattle.refusal.specs.declared.Refusal.TheVariants.{Rows, Cols, Lift, Bits, PlanLength, Entry, SharedDivisor, PlansDiffer, JoinedPlace}
@@ -52,28 +52,28 @@ row plan cols lift = sized plan 1 cols lift
 abbrev cases : List Case
 cases =
     -- 1 and 2 of either; 3 of either, and of the product alone
-    record { first = sized [] 0 0 0; second = sized [] 0 0 0; room = 9; answer = some Rows }
-    ∷ record { first = square (corner 1) 2; second = sized [] 193 0 0; room = 9; answer = some Rows }
-    ∷ record { first = square (corner 1) 2; second = sized [] 1 513 0; room = 9; answer = some Cols }
-    ∷ record { first = square [] 2; second = square [] 4097; room = 9; answer = some Lift }
-    ∷ record { first = square [] 17; second = square [] 241; room = 9; answer = some Lift }
+    record { first = sized [] 0 0 0; second = sized [] 0 0 0; room = 9; answer = Some Rows }
+    ∷ record { first = square (corner 1) 2; second = sized [] 193 0 0; room = 9; answer = Some Rows }
+    ∷ record { first = square (corner 1) 2; second = sized [] 1 513 0; room = 9; answer = Some Cols }
+    ∷ record { first = square [] 2; second = square [] 4097; room = 9; answer = Some Lift }
+    ∷ record { first = square [] 17; second = square [] 241; room = 9; answer = Some Lift }
     -- 4 of either, and of the product with the first plan's columns alone; 5 of either
-    ∷ record { first = row [] 17 1; second = row [] 17 4096; room = 9; answer = some Bits }
-    ∷ record { first = row [] 17 16; second = row [] 16 256; room = 9; answer = some Bits }
-    ∷ record { first = row [] 16 16; second = row [] 17 256; room = 9; answer = some PlanLength }
-    ∷ record { first = square (corner 1) 2; second = square [] 3; room = 9; answer = some PlanLength }
+    ∷ record { first = row [] 17 1; second = row [] 17 4096; room = 9; answer = Some Bits }
+    ∷ record { first = row [] 17 16; second = row [] 16 256; room = 9; answer = Some Bits }
+    ∷ record { first = row [] 16 16; second = row [] 17 256; room = 9; answer = Some PlanLength }
+    ∷ record { first = square (corner 1) 2; second = square [] 3; room = 9; answer = Some PlanLength }
     -- 6 of both: the first plan's place; of the second alone; before 27
-    ∷ record { first = square (pos 0 ∷ pos 0 ∷ pos 0 ∷ negsuc 1 ∷ []) 2; second = square (negsuc 1 ∷ pos 0 ∷ pos 0 ∷ pos 1 ∷ []) 3; room = 9; answer = some (Entry 3) }
-    ∷ record { first = square (corner 1) 2; second = square (pos 0 ∷ negsuc 1 ∷ pos 0 ∷ pos 1 ∷ []) 2; room = 9; answer = some (Entry 1) }
+    ∷ record { first = square (pos 0 ∷ pos 0 ∷ pos 0 ∷ negsuc 1 ∷ []) 2; second = square (negsuc 1 ∷ pos 0 ∷ pos 0 ∷ pos 1 ∷ []) 3; room = 9; answer = Some (Entry 3) }
+    ∷ record { first = square (corner 1) 2; second = square (pos 0 ∷ negsuc 1 ∷ pos 0 ∷ pos 1 ∷ []) 2; room = 9; answer = Some (Entry 1) }
     -- 27, 28 of rows and columns and of an empty block, 29 of a place that is longer and of one that is shorter; each before the next
-    ∷ record { first = square (corner 1) 4; second = row (corner 1) 4 6; room = 9; answer = some SharedDivisor }
-    ∷ record { first = square (corner 1) 2; second = row (corner 1) 4 3; room = 9; answer = some PlansDiffer }
-    ∷ record { first = square (corner 1) 2; second = square (pos 0 ∷ pos 0 ∷ pos 0 ∷ negsuc 0 ∷ []) 3; room = 9; answer = some PlansDiffer }
-    ∷ record { first = square (corner 1) 2; second = square (corner 1) 3; room = 5; answer = some JoinedPlace }
-    ∷ record { first = square (corner 1) 2; second = square (corner 1) 3; room = 3; answer = some JoinedPlace }
+    ∷ record { first = square (corner 1) 4; second = row (corner 1) 4 6; room = 9; answer = Some SharedDivisor }
+    ∷ record { first = square (corner 1) 2; second = row (corner 1) 4 3; room = 9; answer = Some PlansDiffer }
+    ∷ record { first = square (corner 1) 2; second = square (pos 0 ∷ pos 0 ∷ pos 0 ∷ negsuc 0 ∷ []) 3; room = 9; answer = Some PlansDiffer }
+    ∷ record { first = square (corner 1) 2; second = square (corner 1) 3; room = 5; answer = Some JoinedPlace }
+    ∷ record { first = square (corner 1) 2; second = square (corner 1) 3; room = 3; answer = Some JoinedPlace }
     -- and two that are joined
-    ∷ record { first = square (corner 1) 2; second = square (corner 1) 3; room = 4; answer = none }
-    ∷ record { first = square (corner 1) 1; second = square (corner 7) 4096; room = 4; answer = none }
+    ∷ record { first = square (corner 1) 2; second = square (corner 1) 3; room = 4; answer = None }
+    ∷ record { first = square (corner 1) 1; second = square (corner 7) 4096; room = 4; answer = None }
     ∷ []
 
 pub refused : map (λ c. join_refusal c.first c.second c.room) cases ≡ map (λ c. c.answer) cases

@@ -4,7 +4,7 @@ use mathlib.Core.Path.{◌≡◌, refl, sym, ap₂, ◌∙◌}
 use mathlib.Core.Logic.{◌≢◌}
 use mathlib.Core.Bool.{Bool, true, false, not, ◌||◌, beq}
 use mathlib.Core.List.{[]}
-use mathlib.Core.Option.{none, some}
+use Rattle.std.specs.Prelude.{None, Some}
 use borrow.Author.Tests.{eqb-true, eq-eqb, ne_eqb, not-false}
 use lib.Dec.{eqb}
 use lib.ListN.{length}
@@ -26,7 +26,7 @@ unfolding join_rules
 rules_rise a b room = refl
 
 -- BOTH PLANS, and the joined size, may be used
-pub both_formed : (a b : Sized) → both_refusal a b ≡ none → Both a b
+pub both_formed : (a b : Sized) → both_refusal a b ≡ None → Both a b
 unfolding both_refusal
 both_formed a b e =
     let (p, r) = (lower_none _ (plan_refusal (at_product a b))).0 e in
@@ -84,24 +84,24 @@ module _ (a b : Sized) where
 
   -- 27 TO 29, one after the other
   module _ (room : ℕ) where
-    pub refused_27 : shared a.lift b.lift ≡ true → lowest (join_rules a b room) ≡ some SharedDivisor
+    pub refused_27 : shared a.lift b.lift ≡ true → lowest (join_rules a b room) ≡ Some SharedDivisor
     unfolding join_rules
     refused_27 e = lowest_here _ SharedDivisor _ e
 
     module _ (coprime : shared a.lift b.lift ≡ false) where
-      pub refused_28 : differ a b ≡ true → lowest (join_rules a b room) ≡ some PlansDiffer
+      pub refused_28 : differ a b ≡ true → lowest (join_rules a b room) ≡ Some PlansDiffer
       unfolding join_rules
       refused_28 e = lowest_next _ SharedDivisor _ coprime ∙ lowest_here _ PlansDiffer _ e
 
       module _ (same : differ a b ≡ false) where
-        pub refused_29 : room ≢ length a.plan → lowest (join_rules a b room) ≡ some JoinedPlace
+        pub refused_29 : room ≢ length a.plan → lowest (join_rules a b room) ≡ Some JoinedPlace
         unfolding join_rules
         refused_29 d =
             lowest_next _ SharedDivisor _ coprime
             ∙ lowest_next _ PlansDiffer _ same
             ∙ lowest_here _ JoinedPlace [] (rw (ne_eqb room (length a.plan) d))
 
-        pub none_refused : room ≡ length a.plan → length a.plan ≡ length b.plan → lowest (join_rules a b room) ≡ none
+        pub none_refused : room ≡ length a.plan → length a.plan ≡ length b.plan → lowest (join_rules a b room) ≡ None
         unfolding join_rules lowest
         none_refused e f = rw (coprime, same, eq-eqb room (length a.plan) e, eq-eqb room (length b.plan) (e ∙ f))
 
@@ -112,7 +112,7 @@ module _ (a b : Sized) where
     pub like : Alike
     pub room_is : room ≡ length a.plan
 
-  pub joinable : (room : ℕ) → join_refusal a b room ≡ none → Joinable room
+  pub joinable : (room : ℕ) → join_refusal a b room ≡ None → Joinable room
   unfolding join_refusal join_rules
   joinable room e =
       let (p, q) = (or_else_none (both_refusal a b) (lowest (join_rules a b room))).0 e in

@@ -1,7 +1,7 @@
 -- Two plans made one (document 02, slip 9): the joined plan, refusals 1 to 6 of both plans and of the joined size, and then 27 to 29.
 use Rattle.std.specs.Prelude.{ℕ, ◌*◌, Bool, not, ◌||◌, List, [], ◌∷◌, map, eqb, ℤ, length}
 use Rattle.std.specs.Bool.{beq}
-use Rattle.std.proofs.Math.Option.{Option, none, some}
+use Rattle.std.specs.Prelude.{Option}
 use Rattle.refusal.specs.declared.Refusal.{Refusal}
 use Rattle.refusal.specs.declared.Refusal.TheVariants.{SharedDivisor, PlansDiffer, JoinedPlace}
 use Rattle.refusal.specs.Lowest.{Rule, refuse, lowest, lower, or_else}
@@ -12,8 +12,6 @@ use Rattle.exponent.specs.declared.block.Block.{Block}
 use Rattle.exponent.specs.Plan.{entry_at, filled, shift_of}
 use Rattle.exponent.specs.Limits.{plan_rules}
 use Rattle.square.specs.Table.{block}
-use Rattle.crt.specs.declared.Joining.{Joining}
-use Rattle.crt.specs.declared.Joining.TheVariants.{Joined, Refused}
 use Rattle.crt.specs.Remainders.{shared, remainders}
 
 -- THE JOINED PLAN. Of two blocks: −1 where the first is empty, else the number from 0 to P × Q − 1 with the remainders of both shifts
@@ -66,7 +64,3 @@ join_refusal a b room = or_else (both_refusal a b) (lowest (join_rules a b room)
 
 abbrev pub after_join : Sized → Sized → List ℤ → List ℤ
 after_join a b place = lent (join_refusal a b (length place)) (joined_plan a.plan a.lift b.plan b.lift) place
-
-abbrev pub joining : Option Refusal → ℕ → Joining
-joining none lift = Joined lift
-joining (some r) lift = Refused r

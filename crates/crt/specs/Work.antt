@@ -1,17 +1,12 @@
 -- What the functions of a join know and find.
+use Rattle.std.specs.Prelude.{Result, Ok, Err}
 use Rattle.std.specs.Prelude.{ℕ, ◌*◌, ◌%◌, ◌≤◌, ◌<◌, ◌≡◌, true, List, ℤ, pos, length, get_or}
-use Rattle.std.proofs.Math.Option.{Option, none, some}
+use Rattle.std.specs.Prelude.{Option, None, Some}
 use Rattle.refusal.specs.declared.Refusal.{Refusal}
 use Rattle.refusal.specs.Lowest.{lowest}
 use Rattle.exponent.specs.declared.Shape.{Shape}
 use Rattle.exponent.specs.Limits.{WellFormed, plan_rules}
-use Rattle.exponent.specs.declared.Validity.{Validity}
-use Rattle.exponent.specs.declared.Validity.TheVariants as validity_answer
 use Rattle.exponent.specs.Plan.{entry_at}
-use Rattle.crt.specs.declared.unit.Found.{Found}
-use Rattle.crt.specs.declared.unit.Found.TheVariants.{Nothing, At}
-use Rattle.crt.specs.declared.judge.Verdict.{Verdict}
-use Rattle.crt.specs.declared.judge.Verdict.TheVariants.{Accepted, Refused}
 use Rattle.crt.specs.Remainders.{shared}
 use Rattle.crt.specs.Join.{Sized, sized, at_product, joined_entry}
 
@@ -26,9 +21,9 @@ pub record UnitOf (P Q u : ℕ) : Type 0 where
   pub low : u < P * Q
 
 -- there is one, or the sizes share a divisor
-pub data Finds (P Q : ℕ) : Found → Type 0 where
-  nothing : shared P Q ≡ true → Finds P Q Nothing
-  at : (u : ℕ) → UnitOf P Q u → Finds P Q (At u)
+pub data Finds (P Q : ℕ) : Option ℕ → Type 0 where
+  nothing : shared P Q ≡ true → Finds P Q None
+  at : (u : ℕ) → UnitOf P Q u → Finds P Q (Some u)
 
 -- two sizes within the limits, with their unit
 pub record Lifts (P Q u : ℕ) : Type 0 where
@@ -36,11 +31,6 @@ pub record Lifts (P Q u : ℕ) : Type 0 where
   pub some_q : 1 ≤ Q
   pub small_product : P * Q ≤ 4096
   pub unit : UnitOf P Q u
-
--- the refusal in a judgement
-abbrev pub refusal_in : Validity → Option Refusal
-refusal_in validity_answer.Valid = none
-refusal_in (validity_answer.Refused r) = some r
 
 -- n is refused as P × Q is, whatever the plan
 abbrev pub AsProduct : ℕ → ℕ → ℕ → Type 0
@@ -56,9 +46,9 @@ pub record Both (a b : Sized) : Type 0 where
   pub product : Formed (at_product a b)
 
 -- a verdict: the refusal, or, where there is none, the unit
-pub data Judges (refusal : Option Refusal) (P Q : ℕ) : Verdict → Type 0 where
-  refused : (r : Refusal) → refusal ≡ some r → Judges refusal P Q (Refused r)
-  accepted : (u : ℕ) → refusal ≡ none → UnitOf P Q u → Judges refusal P Q (Accepted u)
+pub data Judges (refusal : Option Refusal) (P Q : ℕ) : Result ℕ Refusal → Type 0 where
+  refused : (r : Refusal) → refusal ≡ Some r → Judges refusal P Q (Err r)
+  accepted : (u : ℕ) → refusal ≡ None → UnitOf P Q u → Judges refusal P Q (Ok u)
 
 -- the entries before k are joined
 pub record JoinedTo (first : List ℤ) (P : ℕ) (second : List ℤ) (Q : ℕ) (list : List ℤ) (k : ℕ) : Type 0 where

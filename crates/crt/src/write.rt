@@ -19,12 +19,10 @@ pub fn write(first: &[i16], p: usize, second: &[i16], q: usize, unit: usize, joi
     requires { Lifts p q unit × (length first.now ≡ length second.now) × (length joined.old ≡ length first.now) }
     ensures { joined.new ≡ joined_plan first.now p second.now q }
 {
-    let mut place = 0;
-    while place < first.len() {
+    for place in 0..first.len() {
         let a = block::entry_at(first, p, place);
         let b = block::entry_at(second, q, place);
-        let e = remainder(block::shift_of(a), block::shift_of(b), p, q, unit);
-        joined[place] = signed::make(block::is_filled(a), e);
-        place += 1;
+        let e = remainder(a.shift_or_zero(), b.shift_or_zero(), p, q, unit);
+        joined[place] = signed::make(a.is_filled(), e);
     }
 }

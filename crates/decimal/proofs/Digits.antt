@@ -1,5 +1,5 @@
 -- The digits of a number, from those of its tenth. Assumes nothing.
-use Prim.Native.Nat.{ℕ, zero, suc, ◌+◌, ◌/◌, ◌%◌, ◌≤◌, ◌<◌}
+use Prim.Native.Nat.{ℕ, zero, suc, ◌+◌, ◌*◌, ◌/◌, ◌%◌, ◌^◌, ◌≤◌, ◌<◌}
 use mathlib.Core.Path.{◌≡◌, refl, ap, ◌∙◌}
 use mathlib.Core.List.{List, [], ◌∷◌, ◌++◌, append_assoc}
 use native.Mathlib.Omega.{arith}
@@ -52,21 +52,18 @@ decimal_hundred n h =
 pub length_hundred : (n : ℕ) → 100 ≤ n → length (decimal n) ≡ length (decimal (n / 100)) + 2
 length_hundred n h = rw (decimal_hundred n h) (length-append (decimal (n / 100)) (digit (n % 100 / 10) ∷ digit (n % 100 % 10) ∷ []))
 
--- the digits of a number below 10,000, and those of a greater one
-pub length_below : (n : ℕ) → ((10 ≤ n) × (n < 100) → length (decimal n) ≡ 2) × ((100 ≤ n) × (n < 1000) → length (decimal n) ≡ 3) × ((1000 ≤ n) × (n < 10000) → length (decimal n) ≡ 4)
-length_below n = (two n, three n, λ h. omega (arith, length_step n (omega arith), three (n / 10) (omega arith)))
-  where
-    two : (n : ℕ) → (10 ≤ n) × (n < 100) → length (decimal n) ≡ 2
-    two n h = omega (arith, length_step n (omega arith), length_small (n / 10) (omega arith))
+-- a number between two neighbouring powers of ten
+pub length_by_power : (k n : ℕ) → 10 ^ k ≤ n → n < 10 * 10 ^ k → length (decimal n) ≡ k + 1
+length_by_power zero n low high = length_small n (omega arith)
+length_by_power (suc k) n low high =
+    omega (arith, length_step n (omega arith), length_by_power k (n / 10) (omega arith) (omega arith))
 
-    three : (n : ℕ) → (100 ≤ n) × (n < 1000) → length (decimal n) ≡ 3
-    three n h = omega (arith, length_step n (omega arith), two (n / 10) (omega arith))
-
-pub length_four : (n : ℕ) → 9999 < n → length (decimal n) ≡ length (decimal (n / 10000)) + 4
-length_four n h =
-    let e : n / 10 / 10 / 10 / 10 ≡ n / 10000 = omega arith in
-    length_step n (omega arith)
-    ∙ omega (arith, length_step (n / 10) (omega arith), length_step (n / 10 / 10) (omega arith), length_step (n / 10 / 10 / 10) (omega arith), ap (λ (m : ℕ). length (decimal m)) e)
+pub length_under : (k n : ℕ) → n < 10 * 10 ^ k → length (decimal n) ≤ k + 1
+length_under zero n h = omega (arith, length_small n (omega arith))
+length_under (suc k) n h =
+    by_le 10 n
+    (λ g. omega (arith, length_step n g, length_under k (n / 10) (omega arith)))
+    (λ g. omega (arith, length_small n g))
 
 -- the last digit, and what stands before it
 pub decimal_ends : (n : ℕ) → (hs : List ℕ) × (decimal n ≡ hs ++ digit (n % 10) ∷ [])

@@ -17,25 +17,11 @@ pub fn put_byte(text: &mut [u8], at: usize, b: u8) -> usize
 }
 
 // How many digits a number has.
+#[tactic(auto, using(crate::proofs::Digits::length_by_power, crate::proofs::Digits::length_small))]
 fn digit_count(n: usize) -> usize
     ensures { result ≡ length (decimal n) }
 {
-    let mut m = n;
-    let mut d = 0;
-    while 9999 < m {
-        m = m / 10000;
-        d += 4;
-    }
-    if m < 10 {
-        return d + 1;
-    }
-    if m < 100 {
-        return d + 2;
-    }
-    if m < 1000 {
-        return d + 3;
-    }
-    d + 4
+    n.checked_ilog10().map_or(1, |power| power as usize + 1)
 }
 
 // Writes the two digits of a number below 100.
@@ -43,24 +29,24 @@ fn put_two(text: &mut [u8], at: usize, n: usize) -> usize
     requires { (n < 100) × (at + 2 < 2 ^ 64) }
     ensures { Wrote text.old at (digit (n / 10) ∷ digit (n % 10) ∷ []) result text.new }
 {
-    let next = put_byte(text, at, 48 + ((n / 10) as u8));
-    put_byte(text, next, 48 + ((n % 10) as u8))
+    let next = put_byte(text, at, b'0' + (n / 10) as u8);
+    put_byte(text, next, b'0' + (n % 10) as u8)
 }
 
 // Writes a number in decimal: the digits of its hundredth, and its last two. Past the end its digits are only counted.
+#[tactic(auto, using(writing::proofs::Wrote::wrote_past, crate::proofs::Digits::decimal_small, crate::proofs::Digits::decimal_two, crate::proofs::Digits::length_hundred))]
 pub fn put_number(text: &mut [u8], at: usize, n: usize) -> usize
     requires { at + length (decimal n) < 2 ^ 64 }
     ensures { Wrote text.old at (decimal n) result text.new }
 {
     if text.len() <= at {
-        return at + digit_count(n);
+        at + digit_count(n)
+    } else if n < 10 {
+        put_byte(text, at, b'0' + n as u8)
+    } else if n < 100 {
+        put_two(text, at, n)
+    } else {
+        let next = put_number(text, at, n / 100);
+        put_two(text, next, n % 100)
     }
-    if n < 10 {
-        return put_byte(text, at, 48 + (n as u8));
-    }
-    if n < 100 {
-        return put_two(text, at, n);
-    }
-    let next = put_number(text, at, n / 100);
-    put_two(text, next, n % 100)
 }

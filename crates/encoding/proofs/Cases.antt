@@ -3,7 +3,7 @@
 use Prim.Native.Nat.{ℕ}
 use mathlib.Core.Path.{◌≡◌, refl}
 use mathlib.Core.List.{List, [], ◌∷◌, map}
-use mathlib.Core.Option.{Option, none, some}
+use Rattle.std.specs.Prelude.{Option, None, Some}
 use lib.IntN.{ℤ, pos, negsuc}
 use Rattle.refusal.specs.declared.Refusal.{Refusal}
 use Rattle.refusal.specs.declared.Refusal.TheVariants.{Rows, Lift, PlanLength, Entry, WordLength, NotBidiagonal, DataBits}
@@ -41,7 +41,7 @@ pub words :
 unfolding encoded_word front_bit last_bit data_sum sum range block_at entry_at
 words = (refl, refl, refl)
 
-pub third : third_shift example 3 5 3 ≡ some 2
+pub third : third_shift example 3 5 3 ≡ Some 2
 unfolding third_shift shifts_of range block_at entry_at
 third = refl
 
@@ -89,36 +89,36 @@ at_one plan info answer = record { plan = plan; rows = 4; cols = 5; lift = 1; in
 abbrev cases : List Case
 cases =
     -- those of the plan before all others; then 16, 30 and 31, each before the next
-    record { plan = []; rows = 0; cols = 5; lift = 0; info = []; room = 0; answer = some Rows }
-    ∷ record { plan = []; rows = 3; cols = 5; lift = 0; info = []; room = 0; answer = some Lift }
-    ∷ of [] [] 0 (some PlanLength)
-    ∷ of (with_last (pos 1) (pos 1) (negsuc 1)) [] 0 (some (Entry 12))
-    ∷ of (with_last (pos 0) (pos 1) (pos 2)) [] 14 (some WordLength)
-    ∷ of (with_last (pos 0) (pos 1) (pos 2)) [] 16 (some WordLength)
-    ∷ of (with_last (pos 0) (pos 1) (pos 2)) [] 15 (some NotBidiagonal)
-    ∷ of example [] 15 (some DataBits)
+    record { plan = []; rows = 0; cols = 5; lift = 0; info = []; room = 0; answer = Some Rows }
+    ∷ record { plan = []; rows = 3; cols = 5; lift = 0; info = []; room = 0; answer = Some Lift }
+    ∷ of [] [] 0 (Some PlanLength)
+    ∷ of (with_last (pos 1) (pos 1) (negsuc 1)) [] 0 (Some (Entry 12))
+    ∷ of (with_last (pos 0) (pos 1) (pos 2)) [] 14 (Some WordLength)
+    ∷ of (with_last (pos 0) (pos 1) (pos 2)) [] 16 (Some WordLength)
+    ∷ of (with_last (pos 0) (pos 1) (pos 2)) [] 15 (Some NotBidiagonal)
+    ∷ of example [] 15 (Some DataBits)
     -- 30: two rows; no data column; a block off the diagonals, a remainder on them that is not 0, an empty block on them; two filled blocks in
     -- column m − 1, and four; three different remainders
-    ∷ record { plan = pos 0 ∷ pos 0 ∷ pos 0 ∷ pos 0 ∷ pos 0 ∷ pos 0 ∷ []; rows = 2; cols = 3; lift = 1; info = 0 ∷ []; room = 3; answer = some NotBidiagonal }
-    ∷ record { plan = pos 0 ∷ negsuc 0 ∷ pos 0 ∷ pos 0 ∷ pos 0 ∷ pos 0 ∷ negsuc 0 ∷ pos 0 ∷ pos 0 ∷ []; rows = 3; cols = 3; lift = 1; info = []; room = 3; answer = some NotBidiagonal }
-    ∷ of (with_front (pos 0) (pos 0) (negsuc 0)) one_bit 15 (some NotBidiagonal)
-    ∷ of (with_front (negsuc 0) (pos 4) (negsuc 0)) one_bit 15 (some NotBidiagonal)
-    ∷ of (with_front (negsuc 0) (negsuc 0) (negsuc 0)) one_bit 15 (some NotBidiagonal)
-    ∷ of (with_front (negsuc 0) (pos 0) (pos 0)) one_bit 15 (some NotBidiagonal)
-    ∷ of (with_last (pos 1) (pos 1) (negsuc 0)) one_bit 15 (some NotBidiagonal)
-    ∷ at_one (four_rows (pos 0) (pos 0)) (0 ∷ []) (some NotBidiagonal)
-    ∷ of (with_last (pos 0) (pos 1) (pos 2)) one_bit 15 (some NotBidiagonal)
+    ∷ record { plan = pos 0 ∷ pos 0 ∷ pos 0 ∷ pos 0 ∷ pos 0 ∷ pos 0 ∷ []; rows = 2; cols = 3; lift = 1; info = 0 ∷ []; room = 3; answer = Some NotBidiagonal }
+    ∷ record { plan = pos 0 ∷ negsuc 0 ∷ pos 0 ∷ pos 0 ∷ pos 0 ∷ pos 0 ∷ negsuc 0 ∷ pos 0 ∷ pos 0 ∷ []; rows = 3; cols = 3; lift = 1; info = []; room = 3; answer = Some NotBidiagonal }
+    ∷ of (with_front (pos 0) (pos 0) (negsuc 0)) one_bit 15 (Some NotBidiagonal)
+    ∷ of (with_front (negsuc 0) (pos 4) (negsuc 0)) one_bit 15 (Some NotBidiagonal)
+    ∷ of (with_front (negsuc 0) (negsuc 0) (negsuc 0)) one_bit 15 (Some NotBidiagonal)
+    ∷ of (with_front (negsuc 0) (pos 0) (pos 0)) one_bit 15 (Some NotBidiagonal)
+    ∷ of (with_last (pos 1) (pos 1) (negsuc 0)) one_bit 15 (Some NotBidiagonal)
+    ∷ at_one (four_rows (pos 0) (pos 0)) (0 ∷ []) (Some NotBidiagonal)
+    ∷ of (with_last (pos 0) (pos 1) (pos 2)) one_bit 15 (Some NotBidiagonal)
     -- 31: a bit too few, a bit too many, a byte of 2
-    ∷ of example (1 ∷ 0 ∷ 0 ∷ 0 ∷ 0 ∷ []) 15 (some DataBits)
-    ∷ of example (1 ∷ 0 ∷ 0 ∷ 0 ∷ 0 ∷ 0 ∷ 0 ∷ []) 15 (some DataBits)
-    ∷ of example (1 ∷ 0 ∷ 0 ∷ 0 ∷ 0 ∷ 2 ∷ []) 15 (some DataBits)
+    ∷ of example (1 ∷ 0 ∷ 0 ∷ 0 ∷ 0 ∷ []) 15 (Some DataBits)
+    ∷ of example (1 ∷ 0 ∷ 0 ∷ 0 ∷ 0 ∷ 0 ∷ 0 ∷ []) 15 (Some DataBits)
+    ∷ of example (1 ∷ 0 ∷ 0 ∷ 0 ∷ 0 ∷ 2 ∷ []) 15 (Some DataBits)
     -- encoded: the example; equal remainders in other places, and three of them; 0 written as P; an empty block in column m − 1
-    ∷ of example one_bit 15 none
-    ∷ of (with_last (pos 1) (pos 2) (pos 4)) one_bit 15 none
-    ∷ of (with_last (pos 2) (pos 1) (pos 4)) one_bit 15 none
-    ∷ of (with_last (pos 1) (pos 4) (pos 7)) one_bit 15 none
-    ∷ of (with_front (negsuc 0) (pos 6) (negsuc 0)) one_bit 15 none
-    ∷ at_one (four_rows (negsuc 0) (pos 0)) (0 ∷ []) none
+    ∷ of example one_bit 15 None
+    ∷ of (with_last (pos 1) (pos 2) (pos 4)) one_bit 15 None
+    ∷ of (with_last (pos 2) (pos 1) (pos 4)) one_bit 15 None
+    ∷ of (with_last (pos 1) (pos 4) (pos 7)) one_bit 15 None
+    ∷ of (with_front (negsuc 0) (pos 6) (negsuc 0)) one_bit 15 None
+    ∷ at_one (four_rows (negsuc 0) (pos 0)) (0 ∷ []) None
     ∷ []
 
 pub refused : map (λ c. lowest (encode_rules c.plan c.rows c.cols c.lift c.info c.room)) cases ≡ map (λ c. c.answer) cases

@@ -5,7 +5,7 @@ use mathlib.Core.Path.{◌≡◌, refl, sym, ap, ap₂, ◌∙◌}
 use mathlib.Core.Logic.{◌≢◌}
 use mathlib.Core.Bool.{cond}
 use mathlib.Core.List.{List, [], ◌∷◌, ◌++◌}
-use mathlib.Core.Option.{some}
+use Rattle.std.specs.Prelude.{Some}
 use native.Mathlib.Omega.{arith}
 use native.Mathlib.Nat.{mod-lt, mod-eq_of_lt, zero-add, add-zero}
 use borrow.Author.Tests.{eq-eqb, ne_eqb, lt-ltb, le-ltb}
@@ -91,7 +91,7 @@ three_parts rows cols h l =
     ∙ ap₂ (λ (a b : ℕ). below (rows - 1) ++ a ∷ range b (cols - rows)) (zero-add (rows - 1)) (let e : suc (0 + (rows - 1)) ≡ rows = omega arith in e)
 
 module _ (plan : List ℤ) (rows cols lift b : ℕ) (some_lift : 0 < lift) (front : Diagonals plan rows cols lift)
-    (is-third : third_shift plan rows cols lift ≡ some b) (b-low : b < lift) where
+    (is-third : third_shift plan rows cols lift ≡ Some b) (b-low : b < lift) where
   abbrev block : ℕ → ℕ → Block
   block i j = block_at plan cols lift i j
 

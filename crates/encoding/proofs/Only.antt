@@ -2,7 +2,7 @@
 use Prim.Native.Nat.{ℕ, ◌+◌, ◌-◌, ◌*◌, ◌/◌, ◌%◌, ◌<◌}
 use mathlib.Core.Path.{◌≡◌, sym, subst, ◌∙◌}
 use mathlib.Core.List.{List}
-use mathlib.Core.Option.{some}
+use Rattle.std.specs.Prelude.{Some}
 use native.Mathlib.Omega.{arith}
 use native.Mathlib.Nat.{mod-lt, div-add-mod'}
 use lib.IntN.{ℤ}
@@ -19,7 +19,7 @@ use Rattle.encoding.proofs.Checks.{even_solved, solved_even}
 use Rattle.encoding.proofs.Words.{parts, carried_byte, carried_column, parity_low, same_parity, encoded_length, encoded_front, encoded_column, encoded_carries, encoded_is}
 
 module _ (plan : List ℤ) (rows cols lift b : ℕ) (some_lift : 0 < lift) (front : Diagonals plan rows cols lift)
-    (is-third : third_shift plan rows cols lift ≡ some b) (b-low : b < lift)
+    (is-third : third_shift plan rows cols lift ≡ Some b) (b-low : b < lift)
     (info : List ℕ) (info-length : length info ≡ (cols - rows) * lift) where
   abbrev F : List ℕ
   F = encoded_word plan rows cols lift b info

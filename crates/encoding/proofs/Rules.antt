@@ -4,7 +4,7 @@ use mathlib.Core.Path.{◌≡◌, refl, sym, ◌∙◌}
 use mathlib.Core.Logic.{◌≢◌}
 use mathlib.Core.Bool.{true, false, not}
 use mathlib.Core.List.{List, []}
-use mathlib.Core.Option.{none, some}
+use Rattle.std.specs.Prelude.{None, Some}
 use native.Mathlib.Omega.{arith}
 use borrow.Author.Tests.{eqb-true, eq-eqb, ne_eqb, lt-ltb, le-ltb, ltb-false, not-false}
 use lib.Dec.{eqb, ltb}
@@ -58,7 +58,7 @@ good_data n info e =
 
 -- WHICH IS THE LOWEST, of 16, 30 and 31
 module _ (plan : List ℤ) (rows cols lift : ℕ) (info : List ℕ) (room : ℕ) where
-  pub refused_16 : room ≢ cols * lift → lowest (coding_rules plan rows cols lift info room) ≡ some WordLength
+  pub refused_16 : room ≢ cols * lift → lowest (coding_rules plan rows cols lift info room) ≡ Some WordLength
   unfolding coding_rules
   refused_16 d = lowest_here _ WordLength _ (rw (ne_eqb room (cols * lift) d))
 
@@ -66,16 +66,16 @@ module _ (plan : List ℤ) (rows cols lift : ℕ) (info : List ℕ) (room : ℕ)
     right : not (eqb room (cols * lift)) ≡ false
     right = rw (eq-eqb room (cols * lift) whole)
 
-    pub refused_30 : not_bidiagonal plan rows cols lift ≡ true → lowest (coding_rules plan rows cols lift info room) ≡ some NotBidiagonal
+    pub refused_30 : not_bidiagonal plan rows cols lift ≡ true → lowest (coding_rules plan rows cols lift info room) ≡ Some NotBidiagonal
     unfolding coding_rules
     refused_30 e = lowest_next _ WordLength _ right ∙ lowest_here _ NotBidiagonal _ e
 
     module _ (shape : not_bidiagonal plan rows cols lift ≡ false) where
-      pub refused_31 : bad_data ((cols - rows) * lift) info ≡ true → lowest (coding_rules plan rows cols lift info room) ≡ some DataBits
+      pub refused_31 : bad_data ((cols - rows) * lift) info ≡ true → lowest (coding_rules plan rows cols lift info room) ≡ Some DataBits
       unfolding coding_rules
       refused_31 e = lowest_next _ WordLength _ right ∙ lowest_next _ NotBidiagonal _ shape ∙ lowest_here _ DataBits [] e
 
-      pub none_refused : bad_data ((cols - rows) * lift) info ≡ false → lowest (coding_rules plan rows cols lift info room) ≡ none
+      pub none_refused : bad_data ((cols - rows) * lift) info ≡ false → lowest (coding_rules plan rows cols lift info room) ≡ None
       unfolding coding_rules lowest
       none_refused e = rw (right, shape, e)
 
@@ -86,7 +86,7 @@ pub record Accepted (plan : List ℤ) (rows cols lift : ℕ) (info : List ℕ) :
   pub data_whole : length info ≡ (cols - rows) * lift
   pub data_bits : Bits info
 
-pub accepted : (plan : List ℤ) (rows cols lift : ℕ) (info : List ℕ) (room : ℕ) → lowest (encode_rules plan rows cols lift info room) ≡ none → Accepted plan rows cols lift info
+pub accepted : (plan : List ℤ) (rows cols lift : ℕ) (info : List ℕ) (room : ℕ) → lowest (encode_rules plan rows cols lift info room) ≡ None → Accepted plan rows cols lift info
 unfolding encode_rules coding_rules
 accepted plan rows cols lift info room e =
     let rules = coding_rules plan rows cols lift info room in

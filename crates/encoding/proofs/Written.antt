@@ -1,7 +1,9 @@
 -- What is written is the encoded word: data bits laid behind zeros, and the parity bits settled. Assumes nothing.
 use Prim.Native.Nat.{ℕ, ◌+◌, ◌-◌, ◌*◌, ◌/◌, ◌%◌, ◌≤◌, ◌<◌}
 use mathlib.Core.Path.{◌≡◌, ap, subst, ◌∙◌}
-use mathlib.Core.List.{List}
+use mathlib.Core.List.{List, ◌++◌}
+use Rattle.std.proofs.Common.{sym, replicate, length-append}
+use Rattle.std.proofs.lemmas.List.{length-replicate, get_or-replicate, get_or_append_left, get_or-append-add}
 use native.Mathlib.Omega.{arith}
 use native.Mathlib.Nat.{mod-lt, add-mul, div-add-mod'}
 use borrow.Author.Tests.{lt-ltb, le-ltb}
@@ -10,26 +12,35 @@ use lib.ListN.{length, get_or}
 use Rattle.graph.proofs.Decide.{by_le}
 use Rattle.exponent.specs.declared.Shape.{Shape}
 use Rattle.encoding.specs.Encoded.{parity_bit, encoded_word, Carries}
-use Rattle.encoding.specs.Work.{column, Bits, Settled, Fits, Cleared, Copied, Laid}
+use Rattle.encoding.specs.Work.{column, Bits, Settled, Fits, Laid}
 use Rattle.encoding.proofs.Words.{parts, carried_byte, carried_column, same_parity, encoded_is}
 
-module _ {plan : List ℤ} {s : Shape} {third : ℕ} {info word u w : List ℕ} (fits : Fits plan s third info word)
-    (cleared : Cleared (s.rows * s.lift) word u) (copied : Copied (s.rows * s.lift) (length info) info u w) where
+module _ {plan : List ℤ} {s : Shape} {third : ℕ} {info word w : List ℕ} (fits : Fits plan s third info word)
+    (lay : w ≡ replicate (s.rows * s.lift) 0 ++ info) where
   abbrev start : ℕ
   start = s.rows * s.lift
 
   -- parity bits and data bits are the whole word
-  whole : s.cols * s.lift ≡ s.rows * s.lift + length info
+  pub whole : s.cols * s.lift ≡ s.rows * s.lift + length info
   whole = omega (arith, fits.data_whole, parts s.rows s.cols s.lift (let h : s.rows ≤ s.cols = omega (arith, fits.data_column) in h))
 
   long : length w ≡ s.cols * s.lift
-  long = copied.long ∙ cleared.long ∙ fits.whole
+  long = ap length lay ∙ length-append (replicate (s.rows * s.lift) 0) info ∙ ap (λ (n : ℕ). n + length info) (length-replicate {A = ℕ} (s.rows * s.lift) 0) ∙ sym whole
 
   zero : (b : ℕ) → b < s.rows * s.lift → get_or w b 0 ≡ 0
-  zero b h = copied.before b h ∙ cleared.zero b h
+  zero b h =
+      ap (λ (l : List ℕ). get_or l b 0) lay
+      ∙ get_or_append_left (replicate (s.rows * s.lift) 0) info 0 b (omega (arith, length-replicate {A = ℕ} (s.rows * s.lift) 0))
+      ∙ get_or-replicate (s.rows * s.lift) b 0 0 h
+
+  carried : (d : ℕ) → d < length info → get_or w (s.rows * s.lift + d) 0 ≡ get_or info d 0
+  carried d h =
+      ap (λ (l : List ℕ). get_or l (s.rows * s.lift + d) 0) lay
+      ∙ ap (λ (n : ℕ). get_or (replicate (s.rows * s.lift) 0 ++ info) (n + d) 0) (sym (length-replicate {A = ℕ} (s.rows * s.lift) 0))
+      ∙ get_or-append-add (replicate (s.rows * s.lift) 0) info d 0
 
   carries : Carries (s.rows * s.lift) info w
-  carries = record { carried = copied.there }
+  carries = record { carried = carried }
 
   laid_bits : Bits w
   laid_bits =
@@ -51,7 +62,7 @@ module _ {plan : List ℤ} {s : Shape} {third : ℕ} {info word u w : List ℕ} 
 
     -- the data bits stay where they are
     kept : Carries (s.rows * s.lift) info v
-    kept = record { carried = λ d h. stays d ∙ copied.there d h }
+    kept = record { carried = λ d h. stays d ∙ carried d h }
       where
         stays : (d : ℕ) → get_or v (s.rows * s.lift + d) 0 ≡ get_or w (s.rows * s.lift + d) 0
         stays d =

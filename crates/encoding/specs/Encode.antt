@@ -1,6 +1,6 @@
 -- The encoder (document 02, slip 10): its refusals, its answer, and what the lent word then holds.
 use Rattle.std.specs.Prelude.{ℕ, ◌-◌, ◌*◌, Bool, not, ◌||◌, List, [], ◌∷◌, ◌++◌, eqb, ltb, ℤ, length}
-use Rattle.std.proofs.Math.Option.{Option, none, some}
+use Rattle.std.specs.Prelude.{Option, None, Some}
 use Rattle.refusal.specs.declared.Refusal.{Refusal}
 use Rattle.refusal.specs.declared.Refusal.TheVariants.{WordLength, NotBidiagonal, DataBits}
 use Rattle.refusal.specs.Lowest.{Rule, refuse, lowest}
@@ -8,8 +8,6 @@ use Rattle.refusal.specs.Place.{somewhere}
 use Rattle.refusal.specs.Lent.{lent}
 use Rattle.exponent.specs.Limits.{plan_rules}
 use Rattle.bidiagonal.specs.Shape.{third_shift, not_bidiagonal}
-use Rattle.encoding.specs.declared.Encoding.{Encoding}
-use Rattle.encoding.specs.declared.Encoding.TheVariants.{Encoded, Refused}
 use Rattle.encoding.specs.Encoded.{encoded_word}
 
 -- the data are not n bytes, or have a byte above 1
@@ -30,8 +28,8 @@ encode_rules plan rows cols lift info room = plan_rules plan rows cols lift ++ c
 
 -- the third shift of a plan that has the shape
 abbrev pub or_zero : Option ℕ → ℕ
-or_zero none = 0
-or_zero (some e) = e
+or_zero None = 0
+or_zero (Some e) = e
 
 abbrev pub word_of : List ℤ → ℕ → ℕ → ℕ → List ℕ → List ℕ
 word_of plan rows cols lift info = encoded_word plan rows cols lift (or_zero (third_shift plan rows cols lift)) info
@@ -39,10 +37,6 @@ word_of plan rows cols lift info = encoded_word plan rows cols lift (or_zero (th
 -- THE CALL, of what the lent word holds: why it is refused, if it is; the answer; what the word then holds
 abbrev pub encode_refusal : List ℤ → ℕ → ℕ → ℕ → List ℕ → List ℕ → Option Refusal
 encode_refusal plan rows cols lift info word = lowest (encode_rules plan rows cols lift info (length word))
-
-abbrev pub encoding : Option Refusal → Encoding
-encoding none = Encoded
-encoding (some r) = Refused r
 
 abbrev pub after_encode : List ℤ → ℕ → ℕ → ℕ → List ℕ → List ℕ → List ℕ
 after_encode plan rows cols lift info word = lent (encode_refusal plan rows cols lift info word) (word_of plan rows cols lift info) word

@@ -84,17 +84,6 @@ pub record Fits (plan : List ℤ) (s : Shape) (third : ℕ) (info word : List �
   pub data_bits : Bits info
   pub whole : length word ≡ s.cols * s.lift
 
--- the first n bytes are 0
-pub record Cleared (n : ℕ) (w v : List ℕ) : Type 0 where
-  pub long : length v ≡ length w
-  pub zero : (b : ℕ) → b < n → get_or v b 0 ≡ 0
-
--- the first n bytes of a list stand in a word from a place on, and what is before them stays
-pub record Copied (start n : ℕ) (info w v : List ℕ) : Type 0 where
-  pub long : length v ≡ length w
-  pub there : (d : ℕ) → d < n → get_or v (start + d) 0 ≡ get_or info d 0
-  pub before : (b : ℕ) → b < start → get_or v b 0 ≡ get_or w b 0
-
 -- data bits behind parity bits that are 0
 pub record Laid (plan : List ℤ) (s : Shape) (w : List ℕ) : Type 0 where
   pub ready : Ready plan s w

@@ -4,19 +4,16 @@ ghost use Rattle.encoding.specs.Encoded.{bit_for, data_sum};
 ghost use Rattle.encoding.specs.Work.{Bits, Apart, AddedRun, Columns, Added, column, Ready};
 
 use exponent::block::Block;
-use exponent::{Shape, block, position};
+use exponent::plan::Plan;
+use exponent::position;
 
 // Adds, modulo 2, n bytes of a word to n others.
 fn add_run(word: &mut [u8], to: usize, from: usize, n: usize)
     requires { Apart word.old to from n × Bits word.old }
     ensures { AddedRun to from n word.old word.new }
 {
-    let mut k = 0;
-    while k < n {
-        let a = to + k;
-        let b = from + k;
-        word[a] = (word[a] + word[b]) % 2;
-        k += 1;
+    for k in 0..n {
+        word[to + k] = (word[to + k] + word[from + k]) % 2;
     }
 }
 
@@ -33,29 +30,22 @@ pub fn add_column(word: &mut [u8], lift: usize, to: usize, from: usize, e: usize
 }
 
 // Adds to column i what the checks of row i have in column j, for bit z that of check z + turn.
-pub fn add_block(plan: &[i16], shape: Shape, i: usize, j: usize, turn: usize, word: &mut [u8])
-    requires { Ready plan.now shape word.old × (i < shape.rows) × (j < shape.cols) × (i ≢ j) × (turn < shape.lift) }
-    ensures { Added shape.lift i (λ z. bit_for shape.lift ((z + turn) % shape.lift) (column shape.lift word.old j) (block_at plan.now shape.cols shape.lift i j)) word.old word.new }
+pub fn add_block(plan: &Plan, i: usize, j: usize, turn: usize, word: &mut [u8])
+    requires { Ready plan.now.entries.now plan.now.shape word.old × (i < plan.now.shape.rows) × (j < plan.now.shape.cols) × (i ≢ j) × (turn < plan.now.shape.lift) }
+    ensures { Added plan.now.shape.lift i (λ z. bit_for plan.now.shape.lift ((z + turn) % plan.now.shape.lift) (column plan.now.shape.lift word.old j) (block_at plan.now.entries.now plan.now.shape.cols plan.now.shape.lift i j)) word.old word.new }
 {
-    let b = block::block_at(plan, shape.cols, shape.lift, i, j);
-    match b {
-        Block::Zero => {}
-        Block::Invalid => {}
-        Block::Shift(e) => {
-            add_column(word, shape.lift, i, j, position::wrap(e + turn, shape.lift));
-        }
+    let lift = plan.shape.lift;
+    if let Block::Shift(e) = plan.block_at(i, j) {
+        add_column(word, lift, i, j, position::wrap(e + turn, lift));
     }
 }
 
 // Adds to column i what the checks of row i have in the data columns.
-pub fn add_data(plan: &[i16], shape: Shape, i: usize, turn: usize, word: &mut [u8])
-    requires { Ready plan.now shape word.old × (i < shape.rows) × (turn < shape.lift) }
-    ensures { Added shape.lift i (λ z. data_sum plan.now shape.rows shape.cols shape.lift (column shape.lift word.old) i ((z + turn) % shape.lift)) word.old word.new }
+pub fn add_data(plan: &Plan, i: usize, turn: usize, word: &mut [u8])
+    requires { Ready plan.now.entries.now plan.now.shape word.old × (i < plan.now.shape.rows) × (turn < plan.now.shape.lift) }
+    ensures { Added plan.now.shape.lift i (λ z. data_sum plan.now.entries.now plan.now.shape.rows plan.now.shape.cols plan.now.shape.lift (column plan.now.shape.lift word.old) i ((z + turn) % plan.now.shape.lift)) word.old word.new }
 {
-    let cols = shape.cols;
-    let mut j = shape.rows;
-    while j < cols {
-        add_block(plan, shape, i, j, turn, word);
-        j += 1;
+    for j in plan.shape.rows..plan.shape.cols {
+        add_block(plan, i, j, turn, word);
     }
 }

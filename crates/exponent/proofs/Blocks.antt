@@ -4,7 +4,7 @@ use Prim.Native.Nat.{ℕ, zero, suc, ◌+◌, ◌-◌, ◌*◌, ◌≤◌, ◌<�
 use mathlib.Core.Path.{◌≡◌, refl, sym, ap, ap₂, ◌∙◌}
 use mathlib.Core.Bool.{Bool, false}
 use mathlib.Core.List.{List, [], ◌∷◌, ◌++◌, append-nil}
-use mathlib.Core.Option.{Option, none, some}
+use Rattle.std.specs.Prelude.{Option, None, Some}
 use native.Mathlib.Omega.{arith}
 use native.Mathlib.Nat.{suc-mul, zero-mul}
 use borrow.Author.Tests.{ne_eqb}
@@ -15,8 +15,8 @@ use Rattle.graph.proofs.Count.{range_append, select_append, below_last}
 use Rattle.exponent.specs.Neighbours.{put, gather}
 
 abbrev pub hit : Option ℕ → ℕ → Bool
-hit none z = false
-hit (some x) z = eqb x z
+hit None z = false
+hit (Some x) z = eqb x z
 
 pub length_gather : (lift : ℕ) (pick : ℕ → Option ℕ) (l : List ℕ) → length (gather lift pick l) ≡ count (λ j. is_some (pick j)) l
 unfolding gather count
@@ -25,8 +25,8 @@ length_gather lift pick (j ∷ l) = step (pick j) (length_gather lift pick l)
   where
     step : (o : Option ℕ) → length (gather lift pick l) ≡ count (λ j. is_some (pick j)) l
         → length (put o (j * lift) (gather lift pick l)) ≡ one (is_some o) + count (λ j. is_some (pick j)) l
-    step none e = omega arith
-    step (some x) e = omega arith
+    step None e = omega arith
+    step (Some x) e = omega arith
 
 module _ (f : ℕ → Bool) where
   -- one block
@@ -53,19 +53,19 @@ module _ (f : ℕ → Bool) where
   module _ (lift : ℕ) (pick : ℕ → Option ℕ) where
     -- the test picks in block j what `pick` says, and no more
     pub record Picks (j : ℕ) : Type 0 where
-      pub low : (x : ℕ) → pick j ≡ some x → x < lift
+      pub low : (x : ℕ) → pick j ≡ Some x → x < lift
       pub tests : (z : ℕ) → z < lift → f (j * lift + z) ≡ hit (pick j) z
 
     select_block : (j : ℕ) → Picks j → select f (range (j * lift) lift) ≡ put (pick j) (j * lift) []
     select_block j p = step (pick j) refl
       where
         step : (o : Option ℕ) → pick j ≡ o → select f (range (j * lift) lift) ≡ put o (j * lift) []
-        step none e = select_none (j * lift) lift (λ z h. p.tests z h ∙ ap (λ (o : Option ℕ). hit o z) e)
-        step (some x) e = select_one (j * lift) lift x (p.low x e) (λ z h. p.tests z h ∙ ap (λ (o : Option ℕ). hit o z) e)
+        step None e = select_none (j * lift) lift (λ z h. p.tests z h ∙ ap (λ (o : Option ℕ). hit o z) e)
+        step (Some x) e = select_one (j * lift) lift x (p.low x e) (λ z h. p.tests z h ∙ ap (λ (o : Option ℕ). hit o z) e)
 
     put_append : (o : Option ℕ) (base : ℕ) (l : List ℕ) → put o base [] ++ l ≡ put o base l
-    put_append none base l = refl
-    put_append (some x) base l = refl
+    put_append None base l = refl
+    put_append (Some x) base l = refl
 
     select_blocks : (s n : ℕ) → ((j : ℕ) → s ≤ j → j < s + n → Picks j) → select f (range (s * lift) (n * lift)) ≡ gather lift pick (range s n)
     unfolding gather range select
@@ -94,19 +94,19 @@ module _ (lift : ℕ) (pick : ℕ → Option ℕ) where
     where
       step : (o : Option ℕ) → gather lift pick (p ++ q) ≡ gather lift pick p ++ gather lift pick q
           → put o (j * lift) (gather lift pick (p ++ q)) ≡ put o (j * lift) (gather lift pick p) ++ gather lift pick q
-      step none e = e
-      step (some x) e = ap (λ (l : List ℕ). (j * lift + x) ∷ l) e
+      step None e = e
+      step (Some x) e = ap (λ (l : List ℕ). (j * lift + x) ∷ l) e
 
   pub gather_last : (n : ℕ) → gather lift pick (below (n + 1)) ≡ gather lift pick (below n) ++ gather lift pick (n ∷ [])
   gather_last n = ap (gather lift pick) (below_last n) ∙ gather_append (below n) (n ∷ [])
 
-  gather_none : (s n : ℕ) → ((j : ℕ) → s ≤ j → j < s + n → pick j ≡ none) → gather lift pick (range s n) ≡ []
+  gather_none : (s n : ℕ) → ((j : ℕ) → s ≤ j → j < s + n → pick j ≡ None) → gather lift pick (range s n) ≡ []
   unfolding gather range
   gather_none s zero h = refl
   gather_none s (suc n) h = rw (h s (omega arith) (omega arith)) (gather_none (suc s) n (λ j p q. h j (omega arith) (omega arith)))
 
   -- blocks that have no number add nothing
-  pub gather_skip : (m n : ℕ) → m ≤ n → ((j : ℕ) → m ≤ j → j < n → pick j ≡ none) → gather lift pick (below n) ≡ gather lift pick (below m)
+  pub gather_skip : (m n : ℕ) → m ≤ n → ((j : ℕ) → m ≤ j → j < n → pick j ≡ None) → gather lift pick (below n) ≡ gather lift pick (below m)
   gather_skip m n h none_of =
       ap (λ (k : ℕ). gather lift pick (below k)) (let e : n ≡ m + (n - m) = omega arith in e)
       ∙ ap (gather lift pick) (range_append 0 m (n - m))

@@ -2,7 +2,7 @@
 use Prim.Native.Nat.{ℕ}
 use mathlib.Core.Path.{◌≡◌, refl}
 use mathlib.Core.List.{List, [], ◌∷◌}
-use mathlib.Core.Option.{Option, none, some}
+use Rattle.std.specs.Prelude.{Option, None, Some}
 use native.Mathlib.Omega.{arith}
 use lib.IntN.{ℤ, pos, negsuc}
 use Rattle.refusal.specs.declared.Refusal.{Refusal}
@@ -80,20 +80,20 @@ limit plan rows cols lift answer = record { plan = plan; rows = rows; cols = col
 
 abbrev pub limits : List Limit
 limits =
-    limit pair 1 2 4096 none
-    ∷ limit pair 1 2 4097 (some Lift)
-    ∷ limit pair 0 0 0 (some Rows)
-    ∷ limit pair 193 513 1 (some Rows)
-    ∷ limit pair 1 0 1 (some Cols)
-    ∷ limit pair 192 513 4097 (some Cols)
-    ∷ limit pair 192 512 0 (some Lift)
-    ∷ limit pair 192 512 129 (some Bits)
-    ∷ limit pair 192 512 128 (some PlanLength)
-    ∷ limit pair 2 1 1 none
-    ∷ limit (negsuc 0 ∷ pos 4 ∷ negsuc 1 ∷ []) 1 3 5 (some (Entry 2))
-    ∷ limit (negsuc 0 ∷ pos 5 ∷ negsuc 1 ∷ []) 1 3 5 (some (Entry 2))
-    ∷ limit (pos 32767 ∷ negsuc 2 ∷ negsuc 1 ∷ []) 1 3 4096 (some (Entry 1))
-    ∷ limit (negsuc 0 ∷ negsuc 0 ∷ []) 2 1 1 none
+    limit pair 1 2 4096 None
+    ∷ limit pair 1 2 4097 (Some Lift)
+    ∷ limit pair 0 0 0 (Some Rows)
+    ∷ limit pair 193 513 1 (Some Rows)
+    ∷ limit pair 1 0 1 (Some Cols)
+    ∷ limit pair 192 513 4097 (Some Cols)
+    ∷ limit pair 192 512 0 (Some Lift)
+    ∷ limit pair 192 512 129 (Some Bits)
+    ∷ limit pair 192 512 128 (Some PlanLength)
+    ∷ limit pair 2 1 1 None
+    ∷ limit (negsuc 0 ∷ pos 4 ∷ negsuc 1 ∷ []) 1 3 5 (Some (Entry 2))
+    ∷ limit (negsuc 0 ∷ pos 5 ∷ negsuc 1 ∷ []) 1 3 5 (Some (Entry 2))
+    ∷ limit (pos 32767 ∷ negsuc 2 ∷ negsuc 1 ∷ []) 1 3 4096 (Some (Entry 1))
+    ∷ limit (negsuc 0 ∷ negsuc 0 ∷ []) 2 1 1 None
     ∷ []
 
 abbrev Hold : List Limit → Type 0

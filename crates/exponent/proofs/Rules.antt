@@ -1,11 +1,13 @@
 -- Laws of refusals 1 to 6: their numbers rise, and none of them applies exactly where the plan is well formed.
 -- Assumes nothing.
+use Rattle.std.specs.Prelude.{Ok, Err}
+use Rattle.refusal.specs.Answer.{ok_unless}
 use Prim.Native.Nat.{ℕ, ◌*◌, ◌≤◌, ◌<◌}
 use mathlib.Core.Path.{◌≡◌, refl, ap}
 use mathlib.Core.Logic.{◌↔◌, ◌⊎◌, inl, inr}
 use mathlib.Core.Bool.{true, false, not}
 use mathlib.Core.List.{List}
-use mathlib.Core.Option.{Option, none, some}
+use Rattle.std.specs.Prelude.{Option, None, Some}
 use native.Mathlib.Omega.{arith}
 use lib.Dec.{ltb}
 use lib.IntN.{ℤ, pos}
@@ -16,9 +18,8 @@ use Rattle.refusal.specs.Lowest.{lowest, rising}
 use Rattle.refusal.proofs.Lowest.{NoneHolds, none_holds}
 use Rattle.refusal.proofs.Place.{somewhere_no, somewhere_none}
 use Rattle.graph.proofs.Decide.{neither, by_bool}
-use Rattle.exponent.specs.declared.Validity.TheVariants.{Valid, Refused}
 use Rattle.exponent.specs.Plan.{invalid_entry}
-use Rattle.exponent.specs.Limits.{outside, plan_rules, validity, WellFormed}
+use Rattle.exponent.specs.Limits.{outside, plan_rules, WellFormed}
 
 -- computed, whatever the plan is
 pub rules_rise : (plan : List ℤ) (rows cols lift : ℕ) → rising (plan_rules plan rows cols lift) ≡ true
@@ -44,7 +45,7 @@ outside_exactly low high n = (
     beyond (inr h) = by_bool (ltb n low) (λ p. rw p) (λ p. rw (p, lt-ltb high n h))
 
 -- none of them applies exactly where the plan is well formed
-pub accepted : (plan : List ℤ) (rows cols lift : ℕ) → (lowest (plan_rules plan rows cols lift) ≡ none) ↔ WellFormed plan rows cols lift
+pub accepted : (plan : List ℤ) (rows cols lift : ℕ) → (lowest (plan_rules plan rows cols lift) ≡ None) ↔ WellFormed plan rows cols lift
 unfolding plan_rules
 accepted plan rows cols lift = (λ e. well ((none_holds (plan_rules plan rows cols lift)).0 e), λ w. (none_holds (plan_rules plan rows cols lift)).1 (none_of w))
   where
@@ -73,10 +74,14 @@ accepted plan rows cols lift = (λ e. well ((none_holds (plan_rules plan rows co
         (r, (c, (l, (b, (q, (p, tt))))))
 
 -- what an answer of `validate` says of the refusals
-pub valid_none : (o : Option Refusal) → validity o ≡ Valid → o ≡ none
-valid_none none e = refl
-valid_none (some r) e = absurd (let z : ◌≡◌ {A = ℕ} 0 1 = cc in omega arith)
+pub valid_none : (o : Option Refusal) → ok_unless o ≡ Ok tt → o ≡ None
+valid_none None e = refl
+valid_none (Some r) e = absurd (let z : ◌≡◌ {A = ℕ} 0 1 = cc in omega arith)
 
-pub refused_some : (o : Option Refusal) (r : Refusal) → validity o ≡ Refused r → o ≡ some r
-refused_some none r e = absurd (let z : ◌≡◌ {A = ℕ} 0 1 = cc in omega arith)
-refused_some (some s) r e = let q : s ≡ r = cc in ap some q
+pub refused_some : (o : Option Refusal) (r : Refusal) → ok_unless o ≡ Err r → o ≡ Some r
+refused_some None r e = absurd (let z : ◌≡◌ {A = ℕ} 0 1 = cc in omega arith)
+refused_some (Some s) r e = let q : s ≡ r = cc in ap Some q
+
+-- a plan that is let through is well formed
+pub formed : (plan : List ℤ) (rows cols lift : ℕ) → ok_unless (lowest (plan_rules plan rows cols lift)) ≡ Ok tt → WellFormed plan rows cols lift
+formed plan rows cols lift e = (accepted plan rows cols lift).0 (valid_none _ e)

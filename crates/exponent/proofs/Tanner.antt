@@ -5,7 +5,7 @@ use mathlib.Core.Path.{◌≡◌, refl, ap, subst, ◌∙◌}
 use mathlib.Core.Logic.{◌↔◌}
 use mathlib.Core.Bool.{true}
 use mathlib.Core.List.{List}
-use mathlib.Core.Option.{some}
+use Rattle.std.specs.Prelude.{Some}
 use native.Mathlib.Omega.{arith}
 use native.Mathlib.Nat.{mod-lt, div-add-mod', div-lt_iff_lt-mul}
 use borrow.Author.Tests.{eqb-true, eq-eqb}
@@ -69,12 +69,12 @@ edge_check lift y z (Shift e) low p q =
     (λ h. r.1 (eqb-true ((z + (lift - e)) % lift) y h))
 edge_check lift y z Invalid low p q = refl
 
-bit_low : (lift y : ℕ) → 0 < lift → (b : Block) (x : ℕ) → bit_in lift y b ≡ some x → x < lift
+bit_low : (lift y : ℕ) → 0 < lift → (b : Block) (x : ℕ) → bit_in lift y b ≡ Some x → x < lift
 bit_low lift y h Zero x e = absurd (let z : ◌≡◌ {A = ℕ} 0 1 = cc in omega arith)
 bit_low lift y h (Shift s) x e = let q : (y + s) % lift ≡ x = cc in omega (arith, mod-lt (y + s) h)
 bit_low lift y h Invalid x e = absurd (let z : ◌≡◌ {A = ℕ} 0 1 = cc in omega arith)
 
-check_low : (lift z : ℕ) → 0 < lift → (b : Block) (x : ℕ) → check_in lift z b ≡ some x → x < lift
+check_low : (lift z : ℕ) → 0 < lift → (b : Block) (x : ℕ) → check_in lift z b ≡ Some x → x < lift
 check_low lift z h Zero x e = absurd (let z : ◌≡◌ {A = ℕ} 0 1 = cc in omega arith)
 check_low lift z h (Shift s) x e = let q : (z + (lift - s)) % lift ≡ x = cc in omega (arith, mod-lt (z + (lift - s)) h)
 check_low lift z h Invalid x e = absurd (let z : ◌≡◌ {A = ℕ} 0 1 = cc in omega arith)

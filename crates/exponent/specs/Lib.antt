@@ -4,3 +4,4 @@ pub mod Position
 pub mod Tanner
 pub mod Neighbours
 pub mod Remainders
+pub mod Graphs

@@ -1,12 +1,8 @@
 -- Refusals 1 to 6, by which a plan is turned away (document 01, "Turned away").
 use Rattle.std.specs.Prelude.{ℕ, ◌*◌, ◌≤◌, ◌<◌, ◌≡◌, Bool, false, not, ◌||◌, List, [], ◌∷◌, ◌++◌, ltb, eqb, ℤ, pos, length, get_or}
-use Rattle.std.proofs.Math.Option.{Option, none, some}
-use Rattle.refusal.specs.declared.Refusal.{Refusal}
 use Rattle.refusal.specs.declared.Refusal.TheVariants.{Rows, Cols, Lift, Bits, PlanLength, Entry}
 use Rattle.refusal.specs.Lowest.{Rule, refuse}
 use Rattle.refusal.specs.Place.{first_place, somewhere}
-use Rattle.exponent.specs.declared.Validity.{Validity}
-use Rattle.exponent.specs.declared.Validity.TheVariants.{Valid, Refused}
 use Rattle.exponent.specs.Plan.{invalid_entry}
 
 abbrev pub outside : ℕ → ℕ → ℕ → Bool
@@ -28,11 +24,6 @@ entry_rules lift entries = refuse (Entry (first_place (invalid_entry lift) entri
 
 unfoldable pub plan_rules : List ℤ → ℕ → ℕ → ℕ → List Rule
 plan_rules plan rows cols lift = size_rules (length plan) rows cols lift ++ entry_rules lift plan
-
--- the answer of `validate`
-abbrev pub validity : Option Refusal → Validity
-validity none = Valid
-validity (some r) = Refused r
 
 -- what a plan has that none of 1 to 6 falls on
 pub record WellFormed (plan : List ℤ) (rows cols lift : ℕ) : Type 0 where

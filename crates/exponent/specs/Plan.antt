@@ -1,5 +1,6 @@
 -- The exponent matrix (document 01, "The plan and its graph"): a list of rows × cols signed numbers, row by row.
 use Rattle.std.specs.Prelude.{ℕ, zero, suc, ◌+◌, ◌*◌, ◌%◌, Bool, true, false, List, [], ◌∷◌, ℤ, pos, negsuc, get_or}
+use Rattle.exponent.specs.declared.Shape.{Shape}
 use Rattle.exponent.specs.declared.block.Block.{Block}
 use Rattle.exponent.specs.declared.block.Block.TheVariants.{Zero, Shift, Invalid}
 
@@ -38,6 +39,10 @@ abbrev pub shift_of : Block → ℕ
 shift_of Zero = 0
 shift_of (Shift e) = e
 shift_of Invalid = 0
+
+-- the sizes of a plan as one value
+abbrev pub shape_of : ℕ → ℕ → ℕ → Shape
+shape_of rows cols lift = record { rows = rows; cols = cols; lift = lift }
 
 -- entries of filled blocks, by their shifts: how the cases write a plan down
 abbrev pub shifts : List ℕ → List ℤ

@@ -3,7 +3,7 @@ ghost use Rattle.exponent.specs.Position.{forward, back};
 
 // A walk's position: at bit (col, voltage), come from a check in row `row`; or at check (row, voltage), come from a bit in
 // column `col`.
-#[derive(Clone, Copy)]
+#[derive(Clone, Copy, Debug, PartialEq, Eq)]
 pub struct Position {
     pub row: usize,
     pub col: usize,

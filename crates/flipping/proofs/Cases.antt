@@ -1,4 +1,6 @@
 -- Rounds computed, and each refusal. The words were confirmed by a separate computation. Assumes nothing.
+use Rattle.std.specs.Prelude.{Result, Ok, Err}
+use Rattle.refusal.specs.declared.Refusal.{Refusal}
 use Prim.Native.Nat.{ℕ}
 use mathlib.Core.Path.{◌≡◌, refl}
 use mathlib.Core.List.{List, [], ◌∷◌, map}
@@ -15,8 +17,6 @@ use Rattle.exponent.specs.Limits.{plan_rules}
 use Rattle.exponent.specs.Tanner.{tanner, column_weight}
 use Rattle.syndrome.specs.Word.{byte_rules, word_rules}
 use Rattle.syndrome.specs.Check.{check_rules}
-use Rattle.flipping.specs.declared.Flipping.{Flipping}
-use Rattle.flipping.specs.declared.Flipping.TheVariants.{Flipped, Refused}
 use Rattle.flipping.specs.Flip.{other_weight, flip_rules, flip_answer, flip_word}
 
 -- a plan, its sizes, a word, the answer, and the word after the call
@@ -26,13 +26,13 @@ record Case : Type 0 where
   cols : ℕ
   lift : ℕ
   word : List ℕ
-  answer : Flipping
+  answer : Result ℕ Refusal
   left : List ℕ
 
-abbrev of : List ℤ → ℕ → ℕ → ℕ → List ℕ → Flipping → List ℕ → Case
+abbrev of : List ℤ → ℕ → ℕ → ℕ → List ℕ → Result ℕ Refusal → List ℕ → Case
 of plan rows cols lift word answer left = record { plan = plan; rows = rows; cols = cols; lift = lift; word = word; answer = answer; left = left }
 
-abbrev refused : List ℤ → ℕ → ℕ → ℕ → List ℕ → Flipping → Case
+abbrev refused : List ℤ → ℕ → ℕ → ℕ → List ℕ → Result ℕ Refusal → Case
 refused plan rows cols lift word answer = of plan rows cols lift word answer word
 
 -- the Fano plane: column j has its blocks in rows j, j + 1 and j + 3 modulo 7; and one of its codewords
@@ -63,26 +63,26 @@ square = shifts (0 ∷ 0 ∷ 0 ∷ 0 ∷ 0 ∷ 0 ∷ [])
 abbrev cases : List Case
 cases =
     -- a codeword; one wrong bit of it; two wrong bits, whose four odd checks turn all bits but one
-    of fano 7 7 1 codeword (Flipped 0) codeword
-    ∷ of fano 7 7 1 (1 ∷ 0 ∷ 1 ∷ 1 ∷ 1 ∷ 0 ∷ 1 ∷ []) (Flipped 1) codeword
-    ∷ of fano 7 7 1 (0 ∷ 0 ∷ 1 ∷ 1 ∷ 1 ∷ 0 ∷ 0 ∷ []) (Flipped 1) codeword
-    ∷ of fano 7 7 1 (1 ∷ 1 ∷ 1 ∷ 1 ∷ 1 ∷ 0 ∷ 1 ∷ []) (Flipped 6) (0 ∷ 0 ∷ 0 ∷ 0 ∷ 0 ∷ 0 ∷ 0 ∷ [])
+    of fano 7 7 1 codeword (Ok 0) codeword
+    ∷ of fano 7 7 1 (1 ∷ 0 ∷ 1 ∷ 1 ∷ 1 ∷ 0 ∷ 1 ∷ []) (Ok 1) codeword
+    ∷ of fano 7 7 1 (0 ∷ 0 ∷ 1 ∷ 1 ∷ 1 ∷ 0 ∷ 0 ∷ []) (Ok 1) codeword
+    ∷ of fano 7 7 1 (1 ∷ 1 ∷ 1 ∷ 1 ∷ 1 ∷ 0 ∷ 1 ∷ []) (Ok 6) (0 ∷ 0 ∷ 0 ∷ 0 ∷ 0 ∷ 0 ∷ 0 ∷ [])
     -- remainders by 3
-    ∷ of turned 3 2 3 (1 ∷ 0 ∷ 0 ∷ 0 ∷ 0 ∷ 0 ∷ []) (Flipped 1) (0 ∷ 0 ∷ 0 ∷ 0 ∷ 0 ∷ 0 ∷ [])
-    ∷ of turned 3 2 3 (1 ∷ 1 ∷ 1 ∷ 1 ∷ 0 ∷ 1 ∷ []) (Flipped 1) (1 ∷ 1 ∷ 1 ∷ 1 ∷ 1 ∷ 1 ∷ [])
-    ∷ of turned 3 2 3 (1 ∷ 0 ∷ 1 ∷ 1 ∷ 0 ∷ 0 ∷ []) (Flipped 4) (0 ∷ 0 ∷ 0 ∷ 1 ∷ 1 ∷ 1 ∷ [])
+    ∷ of turned 3 2 3 (1 ∷ 0 ∷ 0 ∷ 0 ∷ 0 ∷ 0 ∷ []) (Ok 1) (0 ∷ 0 ∷ 0 ∷ 0 ∷ 0 ∷ 0 ∷ [])
+    ∷ of turned 3 2 3 (1 ∷ 1 ∷ 1 ∷ 1 ∷ 0 ∷ 1 ∷ []) (Ok 1) (1 ∷ 1 ∷ 1 ∷ 1 ∷ 1 ∷ 1 ∷ [])
+    ∷ of turned 3 2 3 (1 ∷ 0 ∷ 1 ∷ 1 ∷ 0 ∷ 0 ∷ []) (Ok 4) (0 ∷ 0 ∷ 0 ∷ 1 ∷ 1 ∷ 1 ∷ [])
     -- at girth 4 one wrong bit does not come back; judged in turn, bit 0 would turn alone
-    ∷ of square 3 2 1 (1 ∷ 0 ∷ []) (Flipped 2) (0 ∷ 1 ∷ [])
+    ∷ of square 3 2 1 (1 ∷ 0 ∷ []) (Ok 2) (0 ∷ 1 ∷ [])
     -- refused: those of the plan before all others; then 16, 18, 19 and 32, each before the next
-    ∷ refused [] 0 2 0 [] (Refused Rows)
-    ∷ refused [] 3 2 0 [] (Refused Lift)
-    ∷ refused (negsuc 1 ∷ pos 0 ∷ []) 1 2 1 [] (Refused (Entry 0))
-    ∷ refused (shifts (0 ∷ 0 ∷ [])) 1 2 1 (2 ∷ []) (Refused WordLength)
-    ∷ refused (shifts (0 ∷ 0 ∷ [])) 1 2 1 (2 ∷ 3 ∷ []) (Refused (Byte 1))
-    ∷ refused (shifts (0 ∷ 0 ∷ [])) 1 2 1 (1 ∷ 2 ∷ []) (Refused (Erasure 1))
-    ∷ refused (shifts (0 ∷ 0 ∷ [])) 1 2 1 (1 ∷ 0 ∷ []) (Refused ColumnWeight)
+    ∷ refused [] 0 2 0 [] (Err Rows)
+    ∷ refused [] 3 2 0 [] (Err Lift)
+    ∷ refused (negsuc 1 ∷ pos 0 ∷ []) 1 2 1 [] (Err (Entry 0))
+    ∷ refused (shifts (0 ∷ 0 ∷ [])) 1 2 1 (2 ∷ []) (Err WordLength)
+    ∷ refused (shifts (0 ∷ 0 ∷ [])) 1 2 1 (2 ∷ 3 ∷ []) (Err (Byte 1))
+    ∷ refused (shifts (0 ∷ 0 ∷ [])) 1 2 1 (1 ∷ 2 ∷ []) (Err (Erasure 1))
+    ∷ refused (shifts (0 ∷ 0 ∷ [])) 1 2 1 (1 ∷ 0 ∷ []) (Err ColumnWeight)
     -- 32: four blocks in the last column
-    ∷ refused (pos 0 ∷ pos 0 ∷ pos 0 ∷ pos 0 ∷ pos 0 ∷ pos 0 ∷ negsuc 0 ∷ pos 0 ∷ []) 4 2 1 (1 ∷ 0 ∷ []) (Refused ColumnWeight)
+    ∷ refused (pos 0 ∷ pos 0 ∷ pos 0 ∷ pos 0 ∷ pos 0 ∷ pos 0 ∷ negsuc 0 ∷ pos 0 ∷ []) 4 2 1 (1 ∷ 0 ∷ []) (Err ColumnWeight)
     ∷ []
 
 pub answers : map (λ c. flip_answer c.plan c.rows c.cols c.lift c.word) cases ≡ map (λ c. c.answer) cases

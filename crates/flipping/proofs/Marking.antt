@@ -1,9 +1,8 @@
 -- Laws of marks, one block at a time, and of all the bits of a check. Assumes nothing.
 use Prim.Native.Nat.{ℕ, ◌+◌, ◌-◌, ◌*◌, ◌/◌, ◌%◌, ◌≤◌, ◌<◌}
 use mathlib.Core.Path.{◌≡◌, refl, sym, ap, subst, ◌∙◌}
-use mathlib.Core.Bool.{false}
 use mathlib.Core.List.{List, [], ◌∷◌, ◌++◌}
-use mathlib.Core.Option.{Option}
+use Rattle.std.specs.Prelude.{Option}
 use native.Mathlib.Omega.{arith}
 use native.Mathlib.Nat.{mod-lt, div-add-mod'}
 use borrow.Author.Tests.{eq-eqb, ne_eqb}
@@ -20,13 +19,13 @@ use Rattle.graph.proofs.Neighbours.{bits_nodup}
 use Rattle.exponent.specs.declared.block.Block.{Block}
 use Rattle.exponent.specs.declared.block.Block.TheVariants.{Shift}
 use Rattle.exponent.specs.declared.Shape.{Shape}
-use Rattle.exponent.specs.Plan.{block_at, filled}
+use Rattle.exponent.specs.Plan.{block_at}
 use Rattle.exponent.specs.Tanner.{graph_of}
 use Rattle.exponent.specs.Neighbours.{gather, bit_in}
 use Rattle.exponent.proofs.Blocks.{gather_append, gather_last, gather_skip}
 use Rattle.exponent.proofs.Tanner.{bits_of_check}
 use Rattle.index.specs.Index.{NextFrom, filled_at}
-use Rattle.syndrome.proofs.Scanning.{pick, row_bits, no_bit}
+use Rattle.syndrome.proofs.Scanning.{pick, row_bits, no_bit, not_filled}
 use Rattle.flipping.specs.Work.{AtMost, Marked}
 
 pub marked_none : (p : List ℕ) → Marked p [] p
@@ -53,10 +52,10 @@ marked_then p q r xs ys m n =
     }
 
 -- one block: nothing where it is not filled, else the bit that it has
-pub marked_empty : (p : List ℕ) (b : Block) (lift y j : ℕ) → filled b ≡ false → Marked p (gather lift (λ _. bit_in lift y b) (j ∷ [])) p
+pub marked_empty : (p : List ℕ) (b : Block) (lift y j : ℕ) → ((e : ℕ) → b ≡ Shift e → ⊥) → Marked p (gather lift (λ _. bit_in lift y b) (j ∷ [])) p
 unfolding gather
-marked_empty p b lift y j e =
-    subst (λ (o : Option ℕ). Marked p (gather lift (λ _. o) (j ∷ [])) p) (sym (no_bit lift y b e)) (marked_none p)
+marked_empty p b lift y j n =
+    subst (λ (o : Option ℕ). Marked p (gather lift (λ _. o) (j ∷ [])) p) (sym (no_bit lift y b (not_filled b n))) (marked_none p)
 
 pub marked_shift : (p : List ℕ) (b : Block) (lift y j e : ℕ) → b ≡ Shift e → j * lift + (y + e) % lift < length p
     → Marked p (gather lift (λ _. bit_in lift y b) (j ∷ [])) (set p (j * lift + (y + e) % lift) (get_or p (j * lift + (y + e) % lift) 0 + 2))

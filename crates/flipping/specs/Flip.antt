@@ -1,6 +1,8 @@
 -- A round of bit flipping (document 02, slip 12): its refusals, its answer, and what the lent word then holds.
+use Rattle.std.specs.Prelude.{Result}
+use Rattle.refusal.specs.Answer.{outcome}
 use Rattle.std.specs.Prelude.{ℕ, Bool, not, List, [], ◌∷◌, ◌++◌, eqb, ℤ}
-use Rattle.std.proofs.Math.Option.{Option, none, some}
+use Rattle.std.specs.Prelude.{Option}
 use Rattle.refusal.specs.declared.Refusal.{Refusal}
 use Rattle.refusal.specs.declared.Refusal.TheVariants.{ColumnWeight}
 use Rattle.refusal.specs.Lowest.{Rule, refuse, lowest}
@@ -9,8 +11,6 @@ use Rattle.graph.specs.Erasure.{any}
 use Rattle.graph.specs.Flipping.{flipped_word, flipped_count}
 use Rattle.exponent.specs.Tanner.{tanner, column_weight}
 use Rattle.syndrome.specs.Check.{check_rules}
-use Rattle.flipping.specs.declared.Flipping.{Flipping}
-use Rattle.flipping.specs.declared.Flipping.TheVariants.{Flipped, Refused}
 
 -- a column has not exactly three filled blocks
 unfoldable pub other_weight : List ℤ → ℕ → ℕ → ℕ → Bool
@@ -24,12 +24,8 @@ flip_rules plan rows cols lift word = check_rules plan rows cols lift word ++ re
 abbrev pub flip_refusal : List ℤ → ℕ → ℕ → ℕ → List ℕ → Option Refusal
 flip_refusal plan rows cols lift word = lowest (flip_rules plan rows cols lift word)
 
-abbrev pub flipping : Option Refusal → ℕ → Flipping
-flipping none n = Flipped n
-flipping (some r) n = Refused r
-
-unfoldable pub flip_answer : List ℤ → ℕ → ℕ → ℕ → List ℕ → Flipping
-flip_answer plan rows cols lift word = flipping (flip_refusal plan rows cols lift word) (flipped_count (tanner plan rows cols lift) word)
+unfoldable pub flip_answer : List ℤ → ℕ → ℕ → ℕ → List ℕ → Result ℕ Refusal
+flip_answer plan rows cols lift word = outcome (flip_refusal plan rows cols lift word) (flipped_count (tanner plan rows cols lift) word)
 
 unfoldable pub flip_word : List ℤ → ℕ → ℕ → ℕ → List ℕ → List ℕ
 flip_word plan rows cols lift word = lent (flip_refusal plan rows cols lift word) (flipped_word (tanner plan rows cols lift) word) word

@@ -1,10 +1,11 @@
 -- The model of the search meets the girth test's declaration, and the cycle that it shows is a shortest one. Assumes nothing.
+use Rattle.std.specs.Prelude.{Option}
 use Prim.Native.Nat.{ℕ, zero, suc, ◌+◌, ◌-◌, ◌*◌, ◌/◌, ◌≤◌, ◌<◌}
 use mathlib.Core.Path.{◌≡◌, refl, sym, ap, subst₂, ◌∙◌}
 use mathlib.Core.Logic.{inl, inr}
 use mathlib.Core.List.{List, [], ◌∷◌, ◌++◌}
 use mathlib.Core.Bool.{true}
-use mathlib.Core.Option.{none, some}
+use Rattle.std.specs.Prelude.{Option, None, Some, Ok}
 use native.Mathlib.Omega.{arith}
 use lib.IntN.{ℤ}
 use lib.ListN.{length, take, get_or, replicate, length-map}
@@ -22,20 +23,19 @@ use Rattle.exponent.specs.Tanner.{graph_of}
 use Rattle.exponent.proofs.Rules.{inside}
 use Rattle.walks.specs.Steps.{blocks_of}
 use Rattle.walks.specs.Ways.{Joint, Way}
-use Rattle.walks.specs.Meeting.{Result, short_cycle}
+use Rattle.walks.specs.Meeting.{short_cycle}
 use Rattle.walks.specs.Trail.{places, lay, trail}
 use Rattle.walks.proofs.Nodes.{checks_in, bits_in}
 use Rattle.walks.proofs.Found.{found_cycle}
 use Rattle.walks.proofs.Missed.{passes_on}
-use Rattle.girth.specs.declared.GirthTest.{GirthTest}
-use Rattle.girth.specs.declared.Outcome.TheVariants.{Passed}
-use Rattle.girth.specs.Test.{targets, allowed, test_rules, without_witness, Answer, passed, failed}
+use Rattle.girth.specs.declared.Cycle.{Cycle}
+use Rattle.girth.specs.Test.{targets, allowed, test_rules, Answer, passed, failed}
 use Rattle.girth.specs.Model.{witness, unless_found, shortest}
 
 -- what the search says of a graph, in rounds of fewer than t checks
-pub data Verdict (G : Bipartite) (t : ℕ) : GirthTest → Type 0 where
-  passes : Passes G (2 * t) → Verdict G t (without_witness Passed)
-  shows : (n : ℕ) (w : Way) → n < t → length w.joints ≡ n → SimpleCycle G n (checks_in w.joints) (bits_in w.joints) → Passes G (2 * n) → Verdict G t (witness n (trail w))
+pub data Verdict (G : Bipartite) (t : ℕ) : Option Cycle → Type 0 where
+  passes : Passes G (2 * t) → Verdict G t None
+  shows : (n : ℕ) (w : Way) → n < t → length w.joints ≡ n → SimpleCycle G n (checks_in w.joints) (bits_in w.joints) → Passes G (2 * n) → Verdict G t (Some (witness n (trail w)))
 
 -- a simple cycle has two checks at least
 pub passes_first : (G : Bipartite) → Passes G (2 * 2)
@@ -48,11 +48,11 @@ module _ (plan : List ℤ) (s : Shape) (some_lift : 0 < s.lift) where
   rounds zero n t two e p = let h : n ≡ t = omega arith in passes (rw h at p)
   rounds (suc k) n t two e p = step (short_cycle (blocks_of plan s) n) refl (rounds k (suc n) t (omega arith) (omega arith))
     where
-      step : (r : Result) → short_cycle (blocks_of plan s) n ≡ r
+      step : (r : Option Way) → short_cycle (blocks_of plan s) n ≡ r
           → (Passes (graph_of plan s) (2 * suc n) → Verdict (graph_of plan s) t (shortest (blocks_of plan s) k (suc n)))
           → Verdict (graph_of plan s) t (unless_found n r (shortest (blocks_of plan s) k (suc n)))
-      step none h more = more (passes_on plan s some_lift n two h p)
-      step (some w) h more = let (size, y) = found_cycle plan s some_lift n w two p h in shows n w (omega arith) size y p
+      step None h more = more (passes_on plan s some_lift n two h p)
+      step (Some w) h more = let (size, y) = found_cycle plan s some_lift n w two p h in shows n w (omega arith) size y p
 
 -- an answer in its places, with zeros behind it
 
@@ -103,9 +103,9 @@ pub allowed_rounds : (target : ℕ) → allowed target ≡ true → Rounds targe
 unfolding allowed
 allowed_rounds target e = rounds_of target (member_mem target targets e)
 
-module _ (plan : List ℤ) (s : Shape) (target : ℕ) (accepted : lowest (test_rules plan s.rows s.cols s.lift target) ≡ none) where
+module _ (plan : List ℤ) (s : Shape) (target : ℕ) (accepted : lowest (test_rules plan s.rows s.cols s.lift target) ≡ None) where
   -- a plan that is not refused has a lift, and its target is allowed
-  asked : (0 < s.lift) × Rounds target
+  pub asked : (0 < s.lift) × Rounds target
   unfolding test_rules plan_rules
   asked =
       let (_, (_, (l, (_, (_, (_, (t, _))))))) = (none_holds (test_rules plan s.rows s.cols s.lift target)).0 accepted in
@@ -115,10 +115,10 @@ module _ (plan : List ℤ) (s : Shape) (target : ℕ) (accepted : lowest (test_r
   model_verdict = rounds plan s asked.0 (target / 2 - 2) 2 (target / 2) (omega arith) asked.1.whole (passes_first (graph_of plan s))
 
   -- THE LAW: the model's answer is the test's
-  pub model_answers : Answer plan s.rows s.cols s.lift target (shortest (blocks_of plan s) (target / 2 - 2) 2)
+  pub model_answers : Answer plan s.rows s.cols s.lift target (Ok (shortest (blocks_of plan s) (target / 2 - 2) 2))
   model_answers = go model_verdict
     where
-      go : {r : GirthTest} → Verdict (graph_of plan s) (target / 2) r → Answer plan s.rows s.cols s.lift target r
+      go : {r : Option Cycle} → Verdict (graph_of plan s) (target / 2) r → Answer plan s.rows s.cols s.lift target (Ok r)
       go (passes p) = passed accepted (rw asked.1.even at p)
       go (shows n w h size y p) =
           let l = w.joints in
@@ -127,7 +127,6 @@ module _ (plan : List ℤ) (s : Shape) (target : ℕ) (accepted : lowest (test_r
           let (g, v) = in_places n (places - length l) (bits_in l) (witness n (trail w)).bits (length-map l (λ e. e.bit) ∙ size) bs in
           failed (witness n (trail w)) accepted
           (record {
-            failed = refl;
             short = omega (arith, asked.1.even);
             cycle = subst₂ (SimpleCycle (graph_of plan s) n) (sym f) (sym g) y;
             none_shorter = p;

@@ -1,7 +1,7 @@
 -- How long the girth test takes at most, for every plan and target that are not refused: the calls that its search makes
 -- (crates/walks/specs/Calls.antt).
 use Rattle.std.specs.Prelude.{ℕ, ◌+◌, ◌-◌, ◌*◌, ◌/◌, ◌≤◌, ◌≡◌, List, ℤ}
-use Rattle.std.proofs.Math.Option.{none}
+use Rattle.std.specs.Prelude.{None}
 use Rattle.refusal.specs.Lowest.{lowest}
 use Rattle.exponent.specs.declared.Shape.{Shape}
 use Rattle.walks.specs.Steps.{blocks_of}
@@ -21,4 +21,4 @@ pub record Bounded (plan : List ℤ) (s : Shape) (target : ℕ) : Type 0 where
   pub by_limits : test_calls plan s target ≤ rounds target * 210000000 + 1000000
 
 abbrev pub AlwaysBounded : Type 0
-AlwaysBounded = (plan : List ℤ) (s : Shape) (target : ℕ) → lowest (test_rules plan s.rows s.cols s.lift target) ≡ none → Bounded plan s target
+AlwaysBounded = (plan : List ℤ) (s : Shape) (target : ℕ) → lowest (test_rules plan s.rows s.cols s.lift target) ≡ None → Bounded plan s target

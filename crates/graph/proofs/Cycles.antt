@@ -3,7 +3,8 @@ use Prim.Native.Nat.{ℕ, zero, suc, ◌+◌, ◌*◌, ◌≤◌, ◌<◌}
 use mathlib.Core.Path.{◌≡◌, refl, sym, ap, subst, ◌∙◌}
 use mathlib.Core.Logic.{◌≢◌, inl, inr}
 use mathlib.Core.List.{List, [], ◌∷◌, ◌++◌}
-use mathlib.Core.Option.{Option, none, some, none-ne-some}
+use Rattle.std.specs.Prelude.{Option, None, Some}
+use Rattle.std.proofs.lemmas.Option.{none-some}
 use native.Mathlib.Omega.{arith}
 use lib.ListN.{length, get_or, length-append}
 use Rattle.graph.specs.Count.{Mem, Nodup}
@@ -15,18 +16,18 @@ use Rattle.graph.proofs.Walks.{Cycle, walk_left, last_adj}
 
 -- the numbers of a list's vertices of one kind
 abbrev pub add : Option ℕ → List ℕ → List ℕ
-add none l = l
-add (some x) l = x ∷ l
+add None l = l
+add (Some x) l = x ∷ l
 
 unfoldable pub numbers : (Node → Option ℕ) → List Node → List ℕ
 numbers kind [] = []
 numbers kind (n ∷ l) = add (kind n) (numbers kind l)
 
-module _ (kind : Node → Option ℕ) (make : ℕ → Node) (made : (n : Node) (x : ℕ) → kind n ≡ some x → make x ≡ n) where
+module _ (kind : Node → Option ℕ) (make : ℕ → Node) (made : (n : Node) (x : ℕ) → kind n ≡ Some x → make x ≡ n) where
   mem_add : (x : ℕ) (n : Node) (l : List Node) (rest : List ℕ) → (Mem x rest → Mem (make x) l) → (o : Option ℕ) → kind n ≡ o → Mem x (add o rest) → Mem (make x) (n ∷ l)
-  mem_add x n l rest later none e m = inr (later m)
-  mem_add x n l rest later (some y) e (inl q) = inl (ap make q ∙ made n y e)
-  mem_add x n l rest later (some y) e (inr m) = inr (later m)
+  mem_add x n l rest later None e m = inr (later m)
+  mem_add x n l rest later (Some y) e (inl q) = inl (ap make q ∙ made n y e)
+  mem_add x n l rest later (Some y) e (inr m) = inr (later m)
 
   mem_numbers : (x : ℕ) (l : List Node) → Mem x (numbers kind l) → Mem (make x) l
   unfolding numbers
@@ -34,8 +35,8 @@ module _ (kind : Node → Option ℕ) (make : ℕ → Node) (made : (n : Node) (
   mem_numbers x (n ∷ l) m = mem_add x n l (numbers kind l) (mem_numbers x l) (kind n) refl m
 
   nodup_add : (n : Node) (l : List Node) → Nodup (n ∷ l) → Nodup (numbers kind l) → (o : Option ℕ) → kind n ≡ o → Nodup (add o (numbers kind l))
-  nodup_add n l d h none e = h
-  nodup_add n l d h (some y) e = (λ m. d.0 (subst (λ (u : Node). Mem u l) (made n y e) (mem_numbers y l m)), h)
+  nodup_add n l d h None e = h
+  nodup_add n l d h (Some y) e = (λ m. d.0 (subst (λ (u : Node). Mem u l) (made n y e) (mem_numbers y l m)), h)
 
   nodup_numbers : (l : List Node) → Nodup l → Nodup (numbers kind l)
   unfolding numbers
@@ -44,12 +45,12 @@ module _ (kind : Node → Option ℕ) (make : ℕ → Node) (made : (n : Node) (
 
 -- the checks and the bits of a list
 abbrev pub check_of : Node → Option ℕ
-check_of (check c) = some c
-check_of (bit b) = none
+check_of (check c) = Some c
+check_of (bit b) = None
 
 abbrev pub bit_of : Node → Option ℕ
-bit_of (check c) = none
-bit_of (bit b) = some b
+bit_of (check c) = None
+bit_of (bit b) = Some b
 
 abbrev pub checks_among : List Node → List ℕ
 checks_among = numbers check_of
@@ -57,12 +58,12 @@ checks_among = numbers check_of
 abbrev pub bits_of : List Node → List ℕ
 bits_of = numbers bit_of
 
-check_made : (n : Node) (x : ℕ) → check_of n ≡ some x → check x ≡ n
+check_made : (n : Node) (x : ℕ) → check_of n ≡ Some x → check x ≡ n
 check_made (check c) x e = let same : c ≡ x = cc in ap check (sym same)
-check_made (bit b) x e = absurd (none-ne-some x e)
+check_made (bit b) x e = absurd (none-some x e)
 
-bit_made : (n : Node) (x : ℕ) → bit_of n ≡ some x → bit x ≡ n
-bit_made (check c) x e = absurd (none-ne-some x e)
+bit_made : (n : Node) (x : ℕ) → bit_of n ≡ Some x → bit x ≡ n
+bit_made (check c) x e = absurd (none-some x e)
 bit_made (bit b) x e = let same : b ≡ x = cc in ap bit (sym same)
 
 pub both : (l : List Node) → length l ≡ length (checks_among l) + length (bits_of l)

@@ -1,6 +1,6 @@
 -- Lists of numbers: those below a bound, those that pass a test, and how many pass. A set of bits or checks is a test ℕ → Bool.
 use Rattle.std.specs.Prelude.{ℕ, zero, suc, ◌+◌, ◌≡◌, ◌⊎◌, Bool, true, false, cond, ◌||◌, List, [], ◌∷◌, eqb}
-use Rattle.std.proofs.Math.Option.{Option, none, some}
+use Rattle.std.specs.Prelude.{Option, None, Some}
 
 -- start, start + 1, …: n numbers
 unfoldable pub range : ℕ → ℕ → List ℕ
@@ -47,5 +47,5 @@ Nodup (x ∷ l) = (¬ Mem x l) × Nodup l
 
 -- whether there is a number
 abbrev pub is_some : Option ℕ → Bool
-is_some none = false
-is_some (some x) = true
+is_some None = false
+is_some (Some x) = true

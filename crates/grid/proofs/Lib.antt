@@ -1,7 +1,6 @@
 pub mod Columns
 pub mod Parts
 pub mod Listed
-pub mod Meeting
 pub mod Shape
 pub mod Moves
 pub mod Short

@@ -4,7 +4,7 @@ use mathlib.Core.Path.{◌≡◌, refl, sym, ap, ap₂, subst, fun_ext, ◌∙�
 use mathlib.Core.Logic.{◌⊎◌, inl, inr}
 use mathlib.Core.Bool.{Bool, true, false, cond, not, ◌&&◌}
 use mathlib.Core.List.{List, [], ◌∷◌, ◌++◌, map, map-append, append-nil}
-use mathlib.Core.Option.{Option, none, some}
+use Rattle.std.specs.Prelude.{Option, None, Some}
 use native.Mathlib.Nat.{div-add-mod', mul-le-mul_right, add-zero, zero-add}
 use native.Mathlib.Omega.{arith}
 use lib.Dec.{ltb, eqb}
@@ -95,29 +95,29 @@ row_name J i =
     cond (ltb i (J * J)) (row_of AJ (i / J) (i % J)) (cond (ltb i (2 * (J * J))) (row_of AR (second / J) (second % J)) (row_of JR (third / J) (third % J)))
 
 abbrev number : ℕ → (ℕ → ℕ → ℕ) → Column → Row → Option ℕ
-number J s q w = cond (meets w q) (some (shift_at J s w.part q)) none
+number J s q w = cond (meets w q) (Some (shift_at J s w.part q)) None
 
 module _ (J : ℕ) (s : ℕ → ℕ → ℕ) (x y u k r : ℕ) where
-  aj_is : cond (eqb x u) (S s y k r) none ≡ cond (eqb x u && eqb y k) (some (s k r)) none
+  aj_is : cond (eqb x u) (S s y k r) None ≡ cond (eqb x u && eqb y k) (Some (s k r)) None
   aj_is = step (eqb x u) (eqb y k) refl
     where
-      step : (b d : Bool) → eqb y k ≡ d → cond b (cond d (some (s y r)) none) none ≡ cond (b && d) (some (s k r)) none
-      step true true e = ap (λ (z : ℕ). some (s z r)) (eqb-true y k e)
+      step : (b d : Bool) → eqb y k ≡ d → cond b (cond d (Some (s y r)) None) None ≡ cond (b && d) (Some (s k r)) None
+      step true true e = ap (λ (z : ℕ). Some (s z r)) (eqb-true y k e)
       step true false e = refl
       step false d e = refl
 
-  ar_is : cond {A = Option ℕ} (eqb x u) (W y k r) none ≡ cond (eqb x u && eqb y r) (some 0) none
+  ar_is : cond {A = Option ℕ} (eqb x u) (W y k r) None ≡ cond (eqb x u && eqb y r) (Some 0) None
   ar_is = step (eqb x u) (eqb y r)
     where
-      step : (b d : Bool) → cond {A = Option ℕ} b (cond d (some 0) none) none ≡ cond (b && d) (some 0) none
+      step : (b d : Bool) → cond {A = Option ℕ} b (cond d (Some 0) None) None ≡ cond (b && d) (Some 0) None
       step true d = refl
       step false d = refl
 
-  jr_is : C J s u x y k r ≡ cond (eqb x k && eqb y r) (some (s u ((r + k) % J))) none
+  jr_is : C J s u x y k r ≡ cond (eqb x k && eqb y r) (Some (s u ((r + k) % J))) None
   jr_is = step (eqb x k) (eqb y r) refl
     where
-      step : (b d : Bool) → eqb y r ≡ d → cond b (cond d (some (s u ((y + k) % J))) none) none ≡ cond (b && d) (some (s u ((r + k) % J))) none
-      step true true e = ap (λ (z : ℕ). some (s u ((z + k) % J))) (eqb-true y r e)
+      step : (b d : Bool) → eqb y r ≡ d → cond b (cond d (Some (s u ((y + k) % J))) None) None ≡ cond (b && d) (Some (s u ((r + k) % J))) None
+      step true true e = ap (λ (z : ℕ). Some (s u ((z + k) % J))) (eqb-true y r e)
       step true false e = refl
       step false d e = refl
 
@@ -132,17 +132,17 @@ e_is J s i c =
     let second = i - J * J in
     let third = i - 2 * (J * J) in
     pick_same (number J s q) (ltb i (J * J)) (ltb i (2 * (J * J)))
-    (cond (eqb (i / J) q.a) (S s (i % J) q.j q.r) none)
-    (cond (eqb (second / J) q.a) (W (second % J) q.j q.r) none)
+    (cond (eqb (i / J) q.a) (S s (i % J) q.j q.r) None)
+    (cond (eqb (second / J) q.a) (W (second % J) q.j q.r) None)
     (C J s q.a (third / J) (third % J) q.j q.r)
     (row_of AJ (i / J) (i % J)) (row_of AR (second / J) (second % J)) (row_of JR (third / J) (third % J))
     (aj_is J s (i / J) (i % J) q.a q.j q.r) (ar_is J s (second / J) (second % J) q.a q.j q.r) (jr_is J s (third / J) (third % J) q.a q.j q.r)
 
-written_is : (P : ℕ) (m : Bool) (n : ℕ) → written P (cond m (some n) none) ≡ block m (n % P)
+written_is : (P : ℕ) (m : Bool) (n : ℕ) → written P (cond m (Some n) None) ≡ block m (n % P)
 written_is P true n = refl
 written_is P false n = refl
 
-is_some_is : (m : Bool) (n : ℕ) → is_some (cond m (some n) none) ≡ m
+is_some_is : (m : Bool) (n : ℕ) → is_some (cond m (Some n) None) ≡ m
 is_some_is true n = refl
 is_some_is false n = refl
 

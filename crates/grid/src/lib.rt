@@ -10,7 +10,7 @@ ghost use Rattle.grid.specs.Inner.{Within, column, keeps};
 use square::{search, signed};
 
 // The three parts of the rows: pairs (a, j), pairs (a, r), pairs (j, r).
-#[derive(Clone, Copy)]
+#[derive(Clone, Copy, Debug, PartialEq, Eq)]
 pub enum Part {
     AJ,
     AR,
@@ -18,7 +18,7 @@ pub enum Part {
 }
 
 // A row: its part, and its pair.
-#[derive(Clone, Copy)]
+#[derive(Clone, Copy, Debug, PartialEq, Eq)]
 pub struct Row {
     pub part: Part,
     pub one: usize,
@@ -26,7 +26,7 @@ pub struct Row {
 }
 
 // A column is a triple.
-#[derive(Clone, Copy)]
+#[derive(Clone, Copy, Debug, PartialEq, Eq)]
 pub struct Column {
     pub a: usize,
     pub j: usize,
@@ -50,23 +50,12 @@ pub fn column_of(order: usize, n: usize) -> Column
 pub fn row_at(part: Part, q: Column) -> Row
     ensures { result ≡ row_at part q }
 {
-    match part {
-        Part::AJ => Row {
-            part: Part::AJ,
-            one: q.a,
-            two: q.j,
-        },
-        Part::AR => Row {
-            part: Part::AR,
-            one: q.a,
-            two: q.r,
-        },
-        Part::JR => Row {
-            part: Part::JR,
-            one: q.j,
-            two: q.r,
-        },
-    }
+    let (one, two) = match part {
+        Part::AJ => (q.a, q.j),
+        Part::AR => (q.a, q.r),
+        Part::JR => (q.j, q.r),
+    };
+    Row { part, one, two }
 }
 
 // The number that stands there.
@@ -74,13 +63,10 @@ pub fn shift_at(table: &[i16], order: usize, part: Part, q: Column) -> usize
     requires { Square order table.now × Within order q }
     ensures { result ≡ shift_at order (table_at order table.now) part q }
 {
-    let a = q.a;
-    let j = q.j;
-    let r = q.r;
     match part {
-        Part::AJ => search::table_at(table, order, j, r),
+        Part::AJ => search::table_at(table, order, q.j, q.r),
         Part::AR => 0,
-        Part::JR => search::table_at(table, order, a, (r + j) % order),
+        Part::JR => search::table_at(table, order, q.a, (q.r + q.j) % order),
     }
 }
 
@@ -88,12 +74,7 @@ pub fn shift_at(table: &[i16], order: usize, part: Part, q: Column) -> usize
 pub fn meets(w: Row, q: Column) -> bool
     ensures { result ≡ meets w q }
 {
-    let part = w.part;
-    let own = row_at(part, q);
-    if w.one == own.one {
-        return w.two == own.two;
-    }
-    false
+    w == row_at(w.part, q)
 }
 
 // The entry in row w and column q.
@@ -101,10 +82,7 @@ pub fn entry(table: &[i16], order: usize, lift: usize, w: Row, q: Column) -> i16
     requires { Square order table.now × (0 < lift) × (lift ≤ 4096) × Within order q }
     ensures { result ≡ entry order lift (table_at order table.now) w q }
 {
-    let part = w.part;
-    let filled = meets(w, q);
-    let n = shift_at(table, order, part, q);
-    signed::make(filled, n % lift)
+    signed::make(meets(w, q), shift_at(table, order, w.part, q) % lift)
 }
 
 // Whether a part has a row, where the mask's byte at the row's pair is m.
@@ -112,8 +90,7 @@ pub fn keeps(part: Part, m: u8) -> bool
     ensures { result ≡ keeps part (eqb m 1) }
 {
     match part {
-        Part::AJ => true,
-        Part::AR => true,
+        Part::AJ | Part::AR => true,
         Part::JR => m == 1,
     }
 }

@@ -8,7 +8,7 @@ use native.Mathlib.Omega.{arith}
 use native.Mathlib.Nat.{suc-mul, zero-mul, mul-le-mul_right}
 use native.Mathlib.Numerals.{add-one}
 use borrow.Author.Tests.{lt-ltb, le-ltb}
-use lib.ListN.{length, get_or, set}
+use lib.ListN.{length, get_or, set, length-set}
 use lib.Seq.{get_or-set_same, get_or-set_other}
 use Rattle.graph.proofs.Decide.{by_eq, by_le}
 use Rattle.exponent.specs.declared.Shape.{Shape}
@@ -32,23 +32,6 @@ same_place i k j m cols p q e =
 pub row_small : {s : Shape} {Says : ℕ → ℕ → ℕ → Type 0} {list : List ℕ} {i : ℕ} → AtRow s Says list i → i * s.cols ≤ 98304
 row_small {s = s} {i = i} at = place_small i s.cols (omega (arith, at.row, at.room.few_rows)) at.room.few_cols
 
--- the place before column `next` of a row: one of the plan's, so small
-pub record Turn (rows cols i next : ℕ) : Type 0 where
-  pub after : next - 1 + 1 ≡ next
-  pub inside : next - 1 < cols
-  pub low : i * cols + (next - 1) < rows * cols
-  pub small : rows * cols ≤ 98304
-
-pub a_turn : {s : Shape} {Says : ℕ → ℕ → ℕ → Type 0} {list : List ℕ} {i next : ℕ} → AtRow s Says list i → next ≤ s.cols → 0 < next → Turn s.rows s.cols i next
-a_turn {s = s} {i = i} {next = next} at p h =
-    let inside : next - 1 < s.cols = omega arith in
-    record {
-      after = omega arith;
-      inside = inside;
-      low = number_low i (next - 1) s.rows s.cols at.row inside;
-      small = place_small s.rows s.cols at.room.few_rows at.room.few_cols;
-    }
-
 -- THE PLACES: what a list says of those from one on
 module _ (Says : ℕ → ℕ → ℕ → Type 0) (s : Shape) (list : List ℕ) where
   pub from_end : IndexedFrom Says s list (s.rows * s.cols)
@@ -67,6 +50,27 @@ module _ (Says : ℕ → ℕ → ℕ → Type 0) (s : Shape) (list : List ℕ) w
       by_eq (k * s.cols + l) (i * s.cols + j)
       (λ e. let same = same_place k i l j s.cols q j_in e in rw (same.0, same.1, get_or-set_same list (i * s.cols + j) m 0 room) here)
       (λ d. rw (get_or-set_other list (i * s.cols + j) (k * s.cols + l) m 0 d) (later k l p q (omega arith)))
+
+-- THE COLUMNS of a row: those from `next` on are done, in a list as long as before
+pub record Columns (Says : ℕ → ℕ → ℕ → Type 0) (s : Shape) (old list : List ℕ) (i next : ℕ) : Type 0 where
+  pub inside : next ≤ s.cols
+  pub same_length : length list ≡ length old
+  pub right : IndexedFrom Says s list (i * s.cols + next)
+
+module _ {Says : ℕ → ℕ → ℕ → Type 0} {s : Shape} {old : List ℕ} {i : ℕ} (at : AtRow s Says old i) where
+  pub columns_start : Columns Says s old old i s.cols
+  columns_start = record { inside = omega arith; same_length = refl; right = from_row Says s old i at.later }
+
+  module _ {list : List ℕ} {next : ℕ} (c : Columns Says s old list i next) where
+    pub columns_step : 0 < next → (m : ℕ) → Says i (next - 1) m → Columns Says s old (set list (i * s.cols + (next - 1)) m) i (next - 1)
+    columns_step h m here =
+        record {
+          inside = omega (arith, c.inside);
+          same_length = simp length-set c.same_length;
+          right =
+              from_step Says s list i (next - 1) next m (omega arith) (omega (arith, c.inside))
+              (omega (arith, number_low i (next - 1) s.rows s.cols at.row (omega (arith, c.inside)), at.room.whole, c.same_length)) c.right here;
+        }
 
 -- THE ROWS: those from i on are done, in a list as long as before
 pub record Rows (Says : ℕ → ℕ → ℕ → Type 0) (s : Shape) (old list : List ℕ) (i : ℕ) : Type 0 where

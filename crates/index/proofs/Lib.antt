@@ -1,2 +1,3 @@
 pub mod Skips
 pub mod Backward
+pub mod Onward

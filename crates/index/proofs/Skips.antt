@@ -1,7 +1,7 @@
 -- Laws of the two index lists: the next number that passes a test, and lists that have it at every place. Assumes nothing.
 use Prim.Native.Nat.{ℕ, ◌+◌, ◌*◌, ◌≤◌, ◌<◌}
 use mathlib.Core.Path.{◌≡◌, sym, subst, ◌∙◌}
-use mathlib.Core.Bool.{Bool, true, false, cond}
+use mathlib.Core.Bool.{Bool, true, false}
 use mathlib.Core.List.{List}
 use native.Mathlib.Omega.{arith}
 use borrow.Author.Tests.{eq-eqb, ne_eqb}
@@ -36,9 +36,11 @@ module _ (test : ℕ → Bool) (limit : ℕ) where
   next_end = record { from_here = omega arith; inside = omega arith; none_between = λ k p q. absurd (omega arith); passes = λ h. absurd (omega arith) }
 
   -- one step back: the number itself where it passes, else the next one
-  pub next_step : (i next m : ℕ) (full : Bool) → i + 1 ≡ next → test i ≡ full → i < limit → NextFrom test next limit m → NextFrom test i limit (cond full i m)
-  next_step i next m true a e h n = record { from_here = omega arith; inside = omega arith; none_between = λ k p q. absurd (omega arith); passes = λ _. e }
-  next_step i next m false a e h n =
+  pub next_here : (i : ℕ) → i < limit → test i ≡ true → NextFrom test i limit i
+  next_here i h e = record { from_here = omega arith; inside = omega arith; none_between = λ k p q. absurd (omega arith); passes = λ _. e }
+
+  pub next_on : (i next m : ℕ) → i + 1 ≡ next → test i ≡ false → NextFrom test next limit m → NextFrom test i limit m
+  next_on i next m a e n =
       record {
         from_here = omega (arith, n.from_here);
         inside = n.inside;

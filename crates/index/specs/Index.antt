@@ -1,6 +1,6 @@
 -- Two index lists over a plan: for each place (i, j) the next filled row of its column, and the next filled column of its row.
 -- They make work faster and change nothing of its meaning.
-use Rattle.std.specs.Prelude.{ℕ, ◌+◌, ◌*◌, ◌≤◌, ◌<◌, ◌≡◌, Bool, true, false, cond, List, ltb, eqb, ℤ, length, get_or}
+use Rattle.std.specs.Prelude.{Option, Some, None, ℕ, ◌+◌, ◌*◌, ◌≤◌, ◌<◌, ◌≡◌, Bool, true, false, cond, List, ltb, eqb, ℤ, length, get_or}
 use Rattle.exponent.specs.declared.Shape.{Shape}
 use Rattle.exponent.specs.Plan.{block_at, filled}
 
@@ -10,6 +10,11 @@ pub record NextFrom (test : ℕ → Bool) (i limit m : ℕ) : Type 0 where
   pub inside : m ≤ limit
   pub none_between : (k : ℕ) → i ≤ k → k < m → test k ≡ false
   pub passes : m < limit → test m ≡ true
+
+-- the same as an answer: that number, or nothing where none passes below the limit
+abbrev pub NextOf : (ℕ → Bool) → ℕ → ℕ → Option ℕ → Type 0
+NextOf test i limit None = (k : ℕ) → i ≤ k → k < limit → test k ≡ false
+NextOf test i limit (Some m) = NextFrom test i limit m × (m < limit)
 
 abbrev pub filled_at : List ℤ → Shape → ℕ → ℕ → Bool
 filled_at plan s i j = filled (block_at plan s.cols s.lift i j)

@@ -4,7 +4,7 @@ use Prim.Native.Nat.{ℕ, zero, suc, ◌+◌, ◌-◌, ◌*◌, ◌/◌, ◌%◌
 use mathlib.Core.Path.{◌≡◌, refl, sym, ap, ◌∙◌}
 use mathlib.Core.Bool.{Bool, true, false}
 use mathlib.Core.List.{List, [], ◌∷◌}
-use mathlib.Core.Option.{Option, none, some}
+use Rattle.std.specs.Prelude.{Option, None, Some}
 use native.Mathlib.Omega.{arith}
 use native.Mathlib.Nat.{sub-zero, mod-lt, div-add-mod', div-lt_iff_lt-mul, mul-le-mul}
 use native.Mathlib.Numerals.{add-one}
@@ -56,7 +56,7 @@ module _ {A : Type 0} (f : List ℕ → A) (test : ℕ → Bool) (skips : (k : �
 
 -- One block.
 
-pub pick_shift : (side : Side) (lift y e : ℕ) → pick_by side lift y (Shift e) ≡ some (turned side lift y e)
+pub pick_shift : (side : Side) (lift y e : ℕ) → pick_by side lift y (Shift e) ≡ Some (turned side lift y e)
 pick_shift Bits lift y e = refl
 pick_shift Checks lift y e = refl
 
@@ -64,7 +64,7 @@ pub turned_low : (side : Side) (lift y e : ℕ) → 0 < lift → turned side lif
 turned_low Bits lift y e h = mod-lt (y + (lift - e)) h
 turned_low Checks lift y e h = mod-lt (y + e) h
 
-pub pick_none : (side : Side) (lift y : ℕ) (b : Block) → filled b ≡ false → pick_by side lift y b ≡ none
+pub pick_none : (side : Side) (lift y : ℕ) (b : Block) → filled b ≡ false → pick_by side lift y b ≡ None
 pick_none Bits lift y Zero e = refl
 pick_none Checks lift y Zero e = refl
 pick_none side lift y (Shift d) e = both_ways {t = true} refl e
@@ -72,11 +72,11 @@ pick_none Bits lift y Invalid e = refl
 pick_none Checks lift y Invalid e = refl
 
 module _ (lift : ℕ) (pick : ℕ → Option ℕ) (k : ℕ) (l : List ℕ) where
-  gather_none : pick k ≡ none → gather lift pick (k ∷ l) ≡ gather lift pick l
+  gather_none : pick k ≡ None → gather lift pick (k ∷ l) ≡ gather lift pick l
   unfolding gather
   gather_none e = rw e
 
-  gather_some : (v : ℕ) → pick k ≡ some v → gather lift pick (k ∷ l) ≡ (k * lift + v) ∷ gather lift pick l
+  gather_some : (v : ℕ) → pick k ≡ Some v → gather lift pick (k ∷ l) ≡ (k * lift + v) ∷ gather lift pick l
   unfolding gather
   gather_some v e = rw e
 
@@ -139,8 +139,8 @@ module _ (plan : List ℤ) (s : Shape) where
     where
       step : (o : Option ℕ) → pick_on plan s side (x / s.lift) (x % s.lift) k ≡ o → numbered s.lift k o ≡ suc y
           → gather s.lift (pick_on plan s side (x / s.lift) (x % s.lift)) (k ∷ range (k + 1) (blocks s side - (k + 1))) ≡ y ∷ gather s.lift (pick_on plan s side (x / s.lift) (x % s.lift)) (range (k + 1) (blocks s side - (k + 1)))
-      step none p q = absurd (omega arith)
-      step (some v) p q = gather_some _ _ _ _ v p ∙ ap (λ (n : ℕ). n ∷ gather s.lift (pick_on plan s side (x / s.lift) (x % s.lift)) (range (k + 1) (blocks s side - (k + 1)))) (omega arith)
+      step None p q = absurd (omega arith)
+      step (Some v) p q = gather_some _ _ _ _ v p ∙ ap (λ (n : ℕ). n ∷ gather s.lift (pick_on plan s side (x / s.lift) (x % s.lift)) (range (k + 1) (blocks s side - (k + 1)))) (omega arith)
 
   module _ (w : WellFormed plan s.rows s.cols s.lift) where
     -- the neighbours of a node, and its degree

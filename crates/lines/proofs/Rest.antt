@@ -1,5 +1,5 @@
 -- The numbers of a line from one on, and the lines in their order. Assumes nothing.
-use Prim.Native.Nat.{ℕ, zero, suc, ◌+◌, ◌-◌, ◌/◌, ◌≤◌, ◌<◌}
+use Prim.Native.Nat.{ℕ, zero, suc, ◌+◌, ◌-◌, ◌/◌, ◌%◌, ◌≤◌, ◌<◌}
 use mathlib.Core.Path.{◌≡◌, refl, sym, ap, ap₂, ◌∙◌}
 use mathlib.Core.List.{List, [], ◌∷◌, ◌++◌, map}
 use native.Mathlib.Omega.{arith}
@@ -23,11 +23,12 @@ use Rattle.lines.specs.declared.Line.{Line}
 use Rattle.lines.specs.declared.Line.TheVariants.{Sizes, Greatest, Degrees, Node}
 use Rattle.lines.specs.declared.generate.Number.{Number}
 use Rattle.lines.specs.Alist.{nodes, neighbours, degrees, greatest, fill, lists, lines_in}
-use Rattle.weights.specs.Weights.{list_of, Weighed}
+use Rattle.graph.proofs.Decide.{by_le}
+use Rattle.weights.specs.Weights.{blocks, list_of, Weighed}
 use Rattle.weights.proofs.Weights.{listed_weight}
-use Rattle.lines.specs.Sides.{node_count, rest_of}
+use Rattle.lines.specs.Sides.{Ready, node_count, next_block, number_in, rest_of}
 use Rattle.lines.specs.Lines.{line_in, line_of, order, side_at, most_of, Measured, list_width, width_of, InLine, line_rest, Fills}
-use Rattle.lines.proofs.Lanes.{nodes_of_law, node_lane, neighbours_rest, degree_weight}
+use Rattle.lines.proofs.Lanes.{nodes_of_law, node_lane, neighbours_rest, degree_weight, rest_hit, rest_none}
 use Rattle.lines.proofs.Weights.{degree_most}
 
 pub first_side : (k : ℕ) → k ≡ 0 → Bits ≡ side_at k
@@ -47,6 +48,17 @@ fills_more rest from y n k e p = record { fills = λ w. rw (p, e) }
 pub fills_zero : (rest : ℕ → List ℕ) (from k : ℕ) → rest from ≡ [] → rest k ≡ [] → Fills rest from (record { value = 0; next = k })
 unfolding fill
 fills_zero rest from k p q = record { fills = λ w. rw (p, q) }
+
+-- what the block that the index leads to has: a neighbour, or nothing at the end of the lane
+pub neighbour_next : (plan : List ℤ) (s : Shape) (down along : List ℕ) → Ready plan s down along → (side : Side) (x k m n : ℕ) → x < node_count s side → k < blocks s side
+    → m ≡ next_block down along s side (x / s.lift) k → n ≡ number_in plan s side (x / s.lift) (x % s.lift) m
+    → Fills (rest_of plan s side x) k (record { value = n; next = m + 1 })
+neighbour_next plan s down along r side x k m n h i e q =
+    by_le 1 n
+    (λ more. let p : n ≡ suc (n - 1) = omega arith in fills_more _ k (n - 1) n (m + 1) p (rest_hit plan s down along r side x k m h i e (n - 1) (sym q ∙ p)))
+    (λ none.
+    let p : n ≡ 0 = omega arith in
+    let (here, after) = rest_none plan s down along r side x k m h i e (sym q ∙ p) in rw p (fills_zero _ k (m + 1) here after))
 
 -- Lists from their k-th element on.
 

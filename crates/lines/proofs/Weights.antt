@@ -1,14 +1,13 @@
 -- The greatest degree is greatest, and the degrees are the weights of rows and columns. Assumes nothing.
-use Prim.Native.Nat.{ℕ, zero, suc, ◌+◌, ◌-◌, ◌*◌, ◌/◌, ◌≤◌, ◌<◌, max, zero-le}
+use Rattle.std.specs.Prelude.{Option, None, Some, SomeIndex, unwrap_or}
+use Prim.Native.Nat.{ℕ, zero, suc, ◌+◌, ◌-◌, ◌*◌, ◌/◌, ◌≤◌, ◌<◌, zero-le}
 use mathlib.Core.Path.{◌≡◌, refl, sym, ap, ap₂, ◌∙◌}
 use mathlib.Core.Logic.{inl, inr}
 use mathlib.Core.List.{List, [], ◌∷◌, ◌++◌, map}
 use native.Mathlib.Omega.{arith}
 use native.Mathlib.Nat.{sub-zero}
 use lib.IntN.{ℤ}
-use native.Mathlib.Numerals.{add-one}
-use lib.ListN.{length, get_or, drop, drop_of_length-le, length-map}
-use lib.Seq.{drop-cons}
+use lib.ListN.{length, get_or, length-map}
 use Rattle.graph.specs.Count.{below, Mem}
 use Rattle.graph.specs.Graph.{Bipartite}
 use Rattle.graph.proofs.Lists.{mem_image, each_image}
@@ -23,7 +22,7 @@ use Rattle.lines.specs.Alist.{nodes, neighbours, degrees, greatest, fill}
 use Rattle.weights.specs.Weights.{lanes, blocks, weight_of, weights_of, Weighed}
 use Rattle.weights.proofs.Weights.{weight_le, listed_length}
 use Rattle.lines.specs.declared.Layout.{Layout}
-use Rattle.lines.specs.Sides.{Ready}
+use Rattle.index.specs.Index.{DownIndex, AlongIndex}
 use Rattle.lines.specs.Lines.{Measured, layout_of, Listed}
 use Rattle.lines.proofs.Lanes.{node_lane, nodes_of_law, small, degree_weight}
 
@@ -39,6 +38,29 @@ pub greatest_le : (n : ℕ) (l : List ℕ) → ((x : ℕ) → Mem x l → x ≤ 
 unfolding greatest
 greatest_le n [] h = zero-le
 greatest_le n (y ∷ l) h = omega (arith, h y (inl refl), greatest_le n l (λ x m. h x (inr m)))
+
+-- the greatest by places: a number of the list that no other exceeds, or 0 of an empty list
+abbrev pub IsTop : List ℕ → Option ℕ → Type 0
+IsTop l None = length l ≡ 0
+IsTop l (Some m) = ((k : ℕ) → k < length l → get_or l k 0 ≤ m) × SomeIndex l (λ k. get_or l k 0 ≡ m)
+
+pub top_greatest : (l : List ℕ) (o : Option ℕ) → IsTop l o → unwrap_or o 0 ≡ greatest l
+unfolding greatest
+top_greatest [] None h = refl
+top_greatest (x ∷ l) None h = absurd (omega arith)
+top_greatest l (Some m) h = omega (arith, each l h.0, some l h.1)
+  where
+    each : (l : List ℕ) → ((k : ℕ) → k < length l → get_or l k 0 ≤ m) → greatest l ≤ m
+    each [] h = zero-le
+    each (x ∷ l) h = omega (arith, h 0 (omega arith), each l (λ k q. h (suc k) (omega arith)))
+
+    at : (l : List ℕ) (k : ℕ) → k < length l → get_or l k 0 ≤ greatest l
+    at [] k h = absurd (omega arith)
+    at (x ∷ l) zero h = omega arith
+    at (x ∷ l) (suc k) h = omega (arith, at l k (omega arith))
+
+    some : (l : List ℕ) → SomeIndex l (λ k. get_or l k 0 ≡ m) → m ≤ greatest l
+    some l h = omega (arith, at l h.0 h.1, h.2)
 
 -- THE GREATEST DEGREE: no node has more neighbours, so filling up a node's list cuts nothing
 pub degree_most : (G : Bipartite) (side : Side) (x : ℕ) → x < nodes G side → length (neighbours G side x) ≤ greatest (degrees G side)
@@ -84,22 +106,6 @@ module _ (plan : List ℤ) (rows cols lift : ℕ) (w : WellFormed plan rows cols
   unfolding degrees tanner
   check_degrees = map_same _ _ (below (rows * lift)) (degree_weight plan shape w Checks)
 
--- the greatest of a list from its k-th number on
-pub most_from : List ℕ → ℕ → ℕ
-most_from l k = greatest (drop k l)
-
-pub most_start : (l : List ℕ) → most_from l 0 ≡ greatest l
-unfolding most_from
-most_start l = refl
-
-pub most_next : (l : List ℕ) (k : ℕ) → k < length l → most_from l k ≡ max (get_or l k 0) (most_from l (k + 1))
-unfolding most_from greatest
-most_next l k h = ap greatest (drop-cons l k 0 h) ∙ ap (λ (n : ℕ). max (get_or l k 0) (greatest (drop n l))) (sym (add-one k))
-
-pub most_end : (l : List ℕ) (k : ℕ) → length l ≤ k → most_from l k ≡ 0
-unfolding most_from greatest
-most_end l k h = ap greatest (drop_of_length-le l h)
-
 -- THE GREATEST WEIGHT of a side is its greatest degree
 module _ (plan : List ℤ) (s : Shape) (w : WellFormed plan s.rows s.cols s.lift) (side : Side) where
   pub most_weight : greatest (weights_of plan s side) ≡ greatest (degrees (graph_of plan s) side)
@@ -131,14 +137,19 @@ module _ (plan : List ℤ) (s : Shape) (w : WellFormed plan s.rows s.cols s.lift
       (each_image (λ x. length (neighbours (graph_of plan s) side x)) (λ n. n ≤ blocks s side) (below (nodes (graph_of plan s) side))
       (λ x m. omega (arith, degree_weight plan s w side x, weight_le plan s side (x / s.lift))))
 
--- the layout by the lists is that of the plan
-pub measured : (plan : List ℤ) (s : Shape) (down along rows cols : List ℕ) → Ready plan s down along → Weighed plan s rows cols → Measured plan (layout_of s rows cols) down along
-measured plan s down along rows cols r v =
-    record {
-      ready = r;
-      most_bits = ap greatest v.cols_right ∙ most_weight plan s r.well Bits;
-      most_checks = ap greatest v.rows_right ∙ most_weight plan s r.well Checks;
-    }
+-- THE LAYOUT that is measured from a plan's weights is that of the plan, over its two index lists
+module _ (plan : List ℤ) (s : Shape) (rows cols : List ℕ) (l : Layout) (e : l ≡ layout_of s rows cols) (v : Weighed plan s rows cols) where
+  pub laid_weighed : Weighed plan l.shape rows cols
+  laid_weighed = rw e v
+
+  pub laid_measured : (down along : List ℕ) → WellFormed plan s.rows s.cols s.lift → DownIndex plan s down → AlongIndex plan s along → Measured plan l down along
+  laid_measured down along well under right =
+      rw e
+      (record {
+        ready = record { well = well; down_index = under; along_index = right };
+        most_bits = ap greatest v.cols_right ∙ most_weight plan s well Bits;
+        most_checks = ap greatest v.rows_right ∙ most_weight plan s well Checks;
+      })
 
 pub listed : (plan : List ℤ) (l : Layout) (down along rows cols : List ℕ) → Measured plan l down along → Weighed plan l.shape rows cols → Listed l rows cols
 listed plan l down along rows cols m v =

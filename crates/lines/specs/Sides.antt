@@ -1,7 +1,6 @@
 -- What the inner functions compute: a node's blocks and neighbours, on either side of the graph. A bit's blocks are those of
 -- its column, a check's those of its row: a lane of blocks.
-use Rattle.std.specs.Prelude.{ℕ, suc, ◌+◌, ◌-◌, ◌*◌, ◌/◌, ◌%◌, ◌≤◌, cond, List, ltb, ℤ, get_or}
-use Rattle.std.proofs.Math.Option.{Option, none, some}
+use Rattle.std.specs.Prelude.{ℕ, suc, ◌+◌, ◌-◌, ◌*◌, ◌/◌, ◌%◌, ◌≤◌, cond, List, ltb, ℤ, get_or, Option, None, Some}
 use Rattle.graph.specs.Count.{range}
 use Rattle.exponent.specs.declared.block.Block.{Block}
 use Rattle.exponent.specs.declared.Shape.{Shape}
@@ -46,8 +45,8 @@ abbrev pub pick_on : List ℤ → Shape → Side → ℕ → ℕ → ℕ → Opt
 pick_on plan s side lane y k = pick_by side s.lift y (block_on plan s side lane k)
 
 abbrev pub numbered : ℕ → ℕ → Option ℕ → ℕ
-numbered lift k none = 0
-numbered lift k (some v) = suc (k * lift + v)
+numbered lift k None = 0
+numbered lift k (Some v) = suc (k * lift + v)
 
 unfoldable pub number_in : List ℤ → Shape → Side → ℕ → ℕ → ℕ → ℕ
 number_in plan s side lane y k = cond (ltb k (blocks s side)) (numbered s.lift k (pick_on plan s side lane y k)) 0

@@ -9,13 +9,15 @@ use tokens::Form;
 use weights::Side;
 
 // A number of a line, and the block that the line goes on from.
-#[derive(Clone, Copy)]
+#[derive(Clone, Copy, Debug, PartialEq, Eq)]
 pub struct Number {
     pub value: usize,
     pub next: usize,
 }
 
 // The next neighbour of node x in the blocks from `from` on, or 0 where it has no more.
+// Stays: 0 and no Option, since 0 is what fills up a short list, and the writer's loop needs no case for it.
+#[tactic(auto, using(crate::proofs::Rest::neighbour_next, crate::proofs::Lanes::rest_end, crate::proofs::Rest::fills_zero))]
 pub fn next_neighbour(
     plan: &[i16],
     down: &[u16],
@@ -43,6 +45,7 @@ pub fn next_neighbour(
 }
 
 // The k-th number of a line, whatever its width w; `from` is the block that the line has come to. Degrees come from the lists of weights.
+#[tactic(auto, using(crate::proofs::Rest::sizes_next, crate::proofs::Rest::greatest_next, crate::proofs::Rest::degree_next, crate::proofs::Rest::node_next, crate::proofs::Lanes::node_lane, weights::proofs::Weights::listed_length))]
 pub fn number_at(
     plan: &[i16],
     down: &[u16],

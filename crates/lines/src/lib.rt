@@ -14,7 +14,7 @@ use tokens::Form;
 use weights::Side;
 
 // The sizes of a plan, and the greatest degree of a bit and of a check.
-#[derive(Clone, Copy)]
+#[derive(Clone, Copy, Debug, PartialEq, Eq)]
 pub struct Layout {
     pub shape: Shape,
     pub bits: usize,
@@ -22,7 +22,7 @@ pub struct Layout {
 }
 
 // A line of the alist: the degrees of a side, or the neighbours of a node, among others.
-#[derive(Clone, Copy)]
+#[derive(Clone, Copy, Debug, PartialEq, Eq)]
 pub enum Line {
     Sizes,
     Greatest,
@@ -64,8 +64,7 @@ pub fn width(byrow: &[u16], bycol: &[u16], l: Layout, form: Form, line: Line) ->
     ensures { result ≡ width_of form l byrow.now bycol.now line }
 {
     match line {
-        Line::Sizes => 2,
-        Line::Greatest => 2,
+        Line::Sizes | Line::Greatest => 2,
         Line::Degrees(side) => sides::node_count(l.shape, side),
         Line::Node(side, x) => list_width(byrow, bycol, l, form, side, x),
     }
@@ -80,6 +79,7 @@ pub fn line_count(l: Layout) -> usize
 }
 
 // Line i: four of all nodes, and then one for each bit and one for each check.
+#[tactic(auto, using(crate::proofs::Rest::order_bit, crate::proofs::Rest::order_check), unfolding(crate::specs::Lines::order))]
 pub fn line_at(l: Layout, i: usize) -> Line
     requires { Small l.shape × (i < line_count l) }
     ensures { (result ≡ get_or (order l.shape) i Line.Sizes) × InLine l result }
@@ -90,11 +90,8 @@ pub fn line_at(l: Layout, i: usize) -> Line
         1 => Line::Greatest,
         2 => Line::Degrees(Side::Bits),
         3 => Line::Degrees(Side::Checks),
-        _ => if i < 4 + bits {
-            Line::Node(Side::Bits, i - 4)
-        } else {
-            Line::Node(Side::Checks, i - 4 - bits)
-        },
+        _ if i < 4 + bits => Line::Node(Side::Bits, i - 4),
+        _ => Line::Node(Side::Checks, i - 4 - bits),
     }
 }
 
@@ -102,16 +99,7 @@ pub fn line_at(l: Layout, i: usize) -> Line
 fn most(list: &[u16]) -> usize
     ensures { result ≡ greatest list.now }
 {
-    let mut most = 0;
-    let mut lane = 0;
-    while lane < list.len() {
-        let w = weights::at(list, lane);
-        if most < w {
-            most = w;
-        }
-        lane += 1;
-    }
-    most
+    list.iter().copied().max().unwrap_or(0) as usize
 }
 
 // The layout of a plan, from its lists of weights.

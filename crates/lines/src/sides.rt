@@ -38,6 +38,7 @@ fn turned(side: Side, lift: usize, y: usize, e: usize) -> usize
 }
 
 // The neighbour of node y of a lane in the lane's block k, counted from 1; 0 where the block joins none.
+#[tactic(auto, using(crate::proofs::Lanes::number_past, crate::proofs::Lanes::number_filled, crate::proofs::Lanes::number_unfilled, crate::proofs::Lanes::shift_on))]
 pub fn number_in(plan: &[i16], s: Shape, side: Side, lane: usize, y: usize, k: usize) -> usize
     requires { WellFormed plan.now s.rows s.cols s.lift × (lane < lanes s side) × (y < s.lift) }
     ensures { result ≡ number_in plan.now s side lane y k }
@@ -45,10 +46,8 @@ pub fn number_in(plan: &[i16], s: Shape, side: Side, lane: usize, y: usize, k: u
     if weights::blocks(s, side) <= k {
         return 0;
     }
-    let b = weights::block_on(plan, s, side, lane, k);
-    match b {
+    match weights::block_on(plan, s, side, lane, k) {
         Block::Shift(e) => k * s.lift + turned(side, s.lift, y, e) + 1,
-        Block::Zero => 0,
-        Block::Invalid => 0,
+        Block::Zero | Block::Invalid => 0,
     }
 }

@@ -1,5 +1,6 @@
 -- The end of the work: without its marks the word is what it was, where a check without an erasure is odd, and else the filled word.
 -- Assumes nothing.
+use Rattle.std.specs.Prelude.{Result, Ok, Err}
 use Prim.Native.Nat.{ℕ, ◌%◌, ◌≤◌}
 use mathlib.Core.Path.{◌≡◌, refl, sym, ap, ap₂, ◌∙◌, fun_ext}
 use mathlib.Core.Logic.{◌≢◌}
@@ -22,8 +23,13 @@ use Rattle.graph.proofs.Peeling.{erasures_count, filled_and_left}
 use Rattle.graph.proofs.Filling.{Completes, total_none, derived_start, left_largest, ends_filled, ends_clash}
 use Rattle.worklist.specs.Work.{unmarked, Working, Peeled}
 use Rattle.worklist.proofs.Unmarking.{unmarked_low, unmarked_high}
-use Rattle.peeling.specs.declared.Filling.TheVariants.{Filled, Refused}
+use Rattle.refusal.specs.declared.Refusal.{Refusal}
+use Rattle.peeling.specs.declared.Filling.{Filling}
 use Rattle.peeling.specs.Fill.{filling, filled_or}
+
+-- the answer with two counts
+abbrev pub counted : ℕ → ℕ → Result Filling Refusal
+counted n m = Ok (record { filled = n; left = m })
 
 -- a byte of the work, kept: it is an erasure where it was, its parity stays, and it is what it was or a filled erasure
 record Kept (x : ℕ) : Type 0 where
@@ -76,7 +82,7 @@ module _ {G : Bipartite} {w p : List ℕ} {n : ℕ} (done : Peeled G w p n 0) (b
 
   -- a clash: the answer is refusal 20, and the word is put back
   module _ (e : clash G p ≡ true) where
-    pub refused_answer : Refused NoSolution ≡ filling G w
+    pub refused_answer : Err NoSolution ≡ filling G w
     unfolding filling
     refused_answer = rw (ends_clash G w p work.derived e)
 
@@ -136,10 +142,10 @@ module _ {G : Bipartite} {w p : List ℕ} {n : ℕ} (done : Peeled G w p n 0) (b
     unfolding filled_or
     filled_word_law = ends.1 ∙ rw ends.0
 
-    pub filled_answer : Filled n (erasures q) ≡ filling G w
+    pub filled_answer : counted n (erasures q) ≡ filling G w
     unfolding filling
     filled_answer =
         let left = erasures_left G w q (erased_same ∙ lost) (len ∙ done.worked.same_length) in
         let filled : n ≡ filled_count G w =
         omega (arith, filled_and_left G w, done.worked.fewer, erasures_left G w p lost done.worked.same_length) in
-        ap₂ Filled filled left ∙ rw ends.0
+        ap₂ counted filled left ∙ rw ends.0

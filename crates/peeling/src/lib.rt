@@ -2,11 +2,12 @@
 // slip 5).
 #![tactic(auto)]
 
-ghost use Rattle.std.specs.Prelude.{◌≡◌, length};
-ghost use Rattle.exponent.specs.Tanner.{graph_of};
+ghost use Rattle.std.specs.Prelude.{◌≡◌};
+ghost use Rattle.exponent.specs.Graphs.{graph};
 ghost use Rattle.peeling.specs.Fill.{Fillable, filling, filled_or, Fills, Previews};
 
-use exponent::{Shape, Validity};
+use exponent::plan::Plan;
+use index::rows::Graph;
 use refusal::Refusal;
 use syndrome::byte;
 use worklist::marks;
@@ -14,72 +15,68 @@ use worklist::marks;
 // The most bits that a valid plan has (refusal 4), so the most bytes of a word for one.
 const BITS: usize = 65536;
 
-// The answer: how many of the word's erasures were filled, or would be, and how many are left.
-#[derive(Clone, Copy)]
-pub enum Filling {
-    Filled { filled: usize, left: usize },
-    Refused(Refusal),
+// How many of a word's erasures were filled, or would be, and how many are left.
+#[derive(Clone, Copy, Debug, PartialEq, Eq)]
+pub struct Filling {
+    pub filled: usize,
+    pub left: usize,
 }
 
-// Fills a word of bytes 0, 1 and 2 for a valid plan.
-fn fill_valid(plan: &[i16], shape: Shape, word: &mut [u8]) -> Filling
-    requires { Fillable plan.now shape word.old }
-    ensures { (result ≡ filling (graph_of plan.now shape) word.old) × (word.new ≡ filled_or (graph_of plan.now shape) word.old) }
+// Fills a word of bytes 0, 1 and 2.
+fn fill_valid(plan: &Plan, word: &mut [u8]) -> Result<Filling, Refusal>
+    requires { Fillable plan.now word.old }
+    ensures { (result ≡ filling (graph plan.now) word.old) × (word.new ≡ filled_or (graph plan.now) word.old) }
 {
     let mut down = [0u16; index::PLACES];
     let mut along = [0u16; index::PLACES];
-    index::build(plan, shape, &mut down, &mut along);
-    let filled = worklist::peel(plan, &down, &along, shape, word);
-    if worklist::has_clash(plan, &along, shape, word) {
+    let graph = Graph::new(*plan, &mut down, &mut along);
+    let filled = worklist::peel(&graph, word);
+    if worklist::has_clash(&graph.rows, word) {
         marks::unmark_all(false, word);
-        return Filling::Refused(Refusal::NoSolution);
+        return Err(Refusal::NoSolution);
     }
     marks::unmark_all(true, word);
     let left = byte::count_erasures(word);
-    Filling::Filled { filled, left }
+    Ok(Filling { filled, left })
 }
 
 // Fills the erasures of a word, as far as the plan's checks determine them.
-pub fn fill(plan: &[i16], rows: usize, cols: usize, lift: usize, word: &mut [u8]) -> Filling
+#[tactic(auto, using(crate::proofs::Rules::word_refused))]
+pub fn fill(
+    plan: &[i16],
+    rows: usize,
+    cols: usize,
+    lift: usize,
+    word: &mut [u8],
+) -> Result<Filling, Refusal>
     ensures { Fills plan.now rows cols lift word.old result word.new }
 {
-    let validity = syndrome::validate_word(plan, rows, cols, lift, word);
-    match validity {
-        Validity::Refused(x) => Filling::Refused(x),
-        Validity::Valid => fill_valid(plan, Shape { rows, cols, lift }, word),
-    }
+    let plan = syndrome::validate_word(plan, rows, cols, lift, word)?;
+    fill_valid(&plan, word)
 }
 
-// Puts the bytes of a word into a place of its length.
-fn copy_word(word: &[u8], place: &mut [u8])
-    requires { length place.old ≡ length word.now }
-    ensures { place.new ≡ word.now }
+// What filling a word of bytes 0, 1 and 2 would report: a copy of it is filled.
+fn preview_valid(plan: &Plan, word: &[u8]) -> Result<Filling, Refusal>
+    requires { Fillable plan.now word.now }
+    ensures { result ≡ filling (graph plan.now) word.now }
 {
-    let mut k = 0;
-    while k < word.len() {
-        place[k] = word[k];
-        k += 1;
-    }
-}
-
-// What filling a word of bytes 0, 1 and 2 for a valid plan would report: a copy of it is filled.
-fn preview_valid(plan: &[i16], shape: Shape, word: &[u8]) -> Filling
-    requires { Fillable plan.now shape word.now }
-    ensures { result ≡ filling (graph_of plan.now shape) word.now }
-{
-    let mut copy = [0u8; BITS];
-    let n = word.len();
-    copy_word(word, &mut copy[..n]);
-    fill_valid(plan, shape, &mut copy[..n])
+    let mut place = [0u8; BITS];
+    let copy = &mut place[..word.len()];
+    copy.copy_from_slice(word);
+    fill_valid(plan, copy)
 }
 
 // Reports what filling a word would report, and only reads the word.
-pub fn preview(plan: &[i16], rows: usize, cols: usize, lift: usize, word: &[u8]) -> Filling
+#[tactic(auto, using(crate::proofs::Rules::word_refused, crate::proofs::Rules::fillable, crate::proofs::Rules::valid_filled))]
+pub fn preview(
+    plan: &[i16],
+    rows: usize,
+    cols: usize,
+    lift: usize,
+    word: &[u8],
+) -> Result<Filling, Refusal>
     ensures { Previews plan.now rows cols lift word.now result }
 {
-    let validity = syndrome::validate_word(plan, rows, cols, lift, word);
-    match validity {
-        Validity::Refused(x) => Filling::Refused(x),
-        Validity::Valid => preview_valid(plan, Shape { rows, cols, lift }, word),
-    }
+    let plan = syndrome::validate_word(plan, rows, cols, lift, word)?;
+    preview_valid(&plan, word)
 }

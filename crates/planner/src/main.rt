@@ -8,6 +8,7 @@ use std::io;
 use std::io::{Read, Stdin};
 
 // Reads until the list is full or the input ends, and returns how many bytes it put at the list's start.
+// Stays: a loop over `read`, since the calls of std that read until the input ends need an allocator.
 fn read_full(mut input: Stdin, list: &mut [u8]) -> io::Result<usize>
     ensures { IfOk result (λ n. n ≤ length list.new) }
 {

@@ -2,95 +2,72 @@
 // stored output.
 #![tactic(auto)]
 
-ghost use Rattle.std.specs.Prelude.{◌≤◌, length};
-
 use std::io;
 use std::io::Stdout;
 
-fn say(out: Stdout, text: &[u8]) -> io::Result<()> {
-    out.write_all(text)
-}
-
-// The place of the first line feed, or the text's length.
-fn line_end(text: &[u8]) -> usize
-    ensures { result ≤ length text.now }
-{
-    let mut i = 0;
-    while i < text.len() {
-        if text[i] == 10 {
-            return i;
-        }
-        i += 1;
-    }
-    i
-}
-
-fn first_line(out: Stdout, text: &[u8]) -> io::Result<()> {
-    let end = line_end(text);
-    say(out, &text[..end])?;
-    say(out, b", length ")?;
-    out.print(text.len())?;
-    say(out, b"\n")
-}
-
-fn case(out: Stdout, label: &[u8], input: &[u8]) -> io::Result<()> {
+// What the planner prints for an input: its first line and its length.
+fn case(out: Stdout, label: &str, input: &[u8]) -> io::Result<()> {
     let mut plan = [0i16; 32768];
-    let mut text = [0u8; 65536];
-    say(out, label)?;
-    say(out, b": ")?;
-    let end = planning::plan_text(input, &mut plan, &mut text);
-    first_line(out, &text[..end])
+    let mut place = [0u8; 65536];
+    let end = planning::plan_text(input, &mut plan, &mut place);
+    let text = &place[..end];
+    let line = text.iter().position(|&b| b == b'\n').unwrap_or(end);
+    print!(out; "{label}: ")?;
+    out.write_all(&text[..line])?;
+    println!(out; ", length {end}")
 }
 
+// Inputs that are their own labels.
 fn numbers(out: Stdout) -> io::Result<()> {
-    case(out, b"4 7", b"4 7")?;
-    case(out, b"4 6", b"4 6")?;
-    case(out, b"7 100", b"7 100")?;
-    case(out, b"6 25", b"6 25")?;
-    case(out, b"4 0", b"4 0")?;
-    case(out, b"3 9", b"3 9")?;
-    case(out, b"7 4097", b"7 4097")?;
-    case(out, b"65536 7", b"65536 7")?;
-    case(out, b"65535 7", b"65535 7")?;
-    case(out, b"4 1025", b"4 1025")
+    for input in [
+        "4 7", "4 6", "7 100", "6 25", "4 0", "3 9", "7 4097", "65536 7", "65535 7", "4 1025",
+    ] {
+        case(out, input, input.as_bytes())?;
+    }
+    Ok(())
 }
 
+// Inputs with labels of their own.
 fn texts(out: Stdout) -> io::Result<()> {
-    case(out, b"empty", b"")?;
-    case(out, b"4 alone", b"4")?;
-    case(out, b"leading zeros", b"0004 0007")?;
-    case(out, b"tab, CR LF", b"\t4\r\n7\r\n")?;
-    case(out, b"4x 7", b"4x 7")?;
-    case(out, b"4: 7", b"4: 7")?;
-    case(out, b"4 /7", b"4 /7")?;
-    case(out, b"4 7 9", b"4 7 9")
+    for (label, input) in [
+        ("empty", ""),
+        ("4 alone", "4"),
+        ("leading zeros", "0004 0007"),
+        ("tab, CR LF", "\t4\r\n7\r\n"),
+        ("4x 7", "4x 7"),
+        ("4: 7", "4: 7"),
+        ("4 /7", "4 /7"),
+        ("4 7 9", "4 7 9"),
+    ] {
+        case(out, label, input.as_bytes())?;
+    }
+    Ok(())
 }
 
 // Tokens of many digits.
 fn long_tokens(out: Stdout) -> io::Result<()> {
-    let order = [49u8; 300];
-    case(out, b"J of 300 digits", &order)?;
-    let mut lift = [48u8; 202];
-    lift[0] = 52;
-    lift[1] = 32;
-    lift[201] = 55;
-    case(out, b"P of 200 digits, 0 to the last, 7", &lift)?;
-    lift[2] = 49;
-    case(out, b"P of 200 digits, the first 1", &lift)
+    case(out, "J of 300 digits", &[b'1'; 300])?;
+    let mut lift = [b'0'; 202];
+    lift[0] = b'4';
+    lift[1] = b' ';
+    lift[201] = b'7';
+    case(out, "P of 200 digits, 0 to the last, 7", &lift)?;
+    lift[2] = b'1';
+    case(out, "P of 200 digits, the first 1", &lift)
 }
 
 // Tokens at the edge of the first 256 bytes.
 fn edge(out: Stdout) -> io::Result<()> {
-    let mut both = [32u8; 260];
-    both[256] = 52;
-    both[258] = 55;
-    case(out, b"4 7 from byte 256 on", &both)?;
-    let mut second = [32u8; 260];
-    second[0] = 52;
-    second[256] = 55;
-    case(out, b"4, and 7 at byte 256", &second)?;
-    second[255] = 55;
-    case(out, b"4, and 77 at byte 255", &second)
+    let mut both = [b' '; 260];
+    both[256] = b'4';
+    both[258] = b'7';
+    case(out, "4 7 from byte 256 on", &both)?;
+    let mut second = [b' '; 260];
+    second[0] = b'4';
+    second[256] = b'7';
+    case(out, "4, and 7 at byte 256", &second)?;
+    second[255] = b'7';
+    case(out, "4, and 77 at byte 255", &second)
 }
 
 fn main(rt: HostRuntime) -> io::Result<()> {

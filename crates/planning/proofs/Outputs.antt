@@ -2,7 +2,7 @@
 use Prim.Native.Nat.{ℕ}
 use mathlib.Core.Path.{◌≡◌, refl, sym, ap, ◌∙◌}
 use mathlib.Core.List.{List, [], ◌∷◌, ◌++◌, append_assoc, append-nil}
-use mathlib.Core.Option.{Option, none, some}
+use Rattle.std.specs.Prelude.{Option, None, Some}
 use lib.IntN.{ℤ}
 use Rattle.refusal.specs.declared.Refusal.{Refusal}
 use Rattle.refusal.specs.Number.{number}
@@ -39,8 +39,8 @@ text_ends line (next ∷ lines) = ends_after (line_from 0 line) (text_of (next �
 
 printed_ends : (o : Option Refusal) (text : List ℕ) → Ends text → Ends (printed o text)
 unfolding refused_line
-printed_ends none text e = e
-printed_ends (some r) text e = ends_after (114 ∷ 101 ∷ 102 ∷ 117 ∷ 115 ∷ 101 ∷ 100 ∷ 32 ∷ []) _ (ends_after (decimal (number r)) (10 ∷ []) (record { before = []; is = refl }))
+printed_ends None text e = e
+printed_ends (Some r) text e = ends_after (114 ∷ 101 ∷ 102 ∷ 117 ∷ 115 ∷ 101 ∷ 100 ∷ 32 ∷ []) _ (ends_after (decimal (number r)) (10 ∷ []) (record { before = []; is = refl }))
 
 alist_ends : (plan : List ℤ) (rows cols lift : ℕ) → Ends (alist_text plan rows cols lift)
 unfolding lines_in

@@ -4,7 +4,9 @@ use Prim.Native.Nat.{ℕ, zero, suc, ◌+◌, ◌-◌, ◌*◌, ◌≤◌, ◌<�
 use mathlib.Core.Path.{◌≡◌, refl, sym, ap, ap₂, subst, ◌∙◌}
 use mathlib.Core.Bool.{Bool, true, false, cond, not}
 use mathlib.Core.List.{List, [], ◌∷◌, ◌++◌}
-use mathlib.Core.Option.{Option, none, some}
+use Rattle.std.specs.Prelude.{Option, None, Some, Ok}
+use Rattle.refusal.specs.Answer.{outcome}
+use Rattle.exponent.specs.declared.Shape.{Shape}
 use native.Mathlib.Omega.{arith}
 use lib.Dec.{eqb}
 use lib.IntN.{ℤ}
@@ -26,26 +28,27 @@ use Rattle.square.specs.Table.{supplied_table}
 use Rattle.square.specs.Mask.{row_ones, column_ones, weighs, weight}
 use Rattle.square.proofs.Places.{square as product}
 use Rattle.grid.specs.Plan.{plan_rows, plan_cols}
-use Rattle.table.specs.declared.Built.TheVariants.{Built}
+use Rattle.grid.proofs.Columns.{cols_small, plan_small}
 use Rattle.refusal.specs.Lent.{lent}
 use Rattle.refusal.proofs.Lent.{lent_of}
 use Rattle.weights.specs.declared.Side.{Side}
+use Rattle.weights.specs.declared.Side.TheVariants.{Bits, Checks}
 use Rattle.weights.specs.declared.Room.{Room}
 use Rattle.weights.specs.Weights.{shape_of, weights_of, Held, held, with_weights, room_of}
-use Rattle.table.specs.Build.{supply_rules, table_rules, build_rules, build_refusal, built_plan, built_shape, after_build, built}
+use Rattle.table.specs.Build.{supply_rules, table_rules, build_rules, build_refusal, built_plan, built_shape, after_build}
 use Rattle.table.proofs.Accepted.{taken}
 use Rattle.table.proofs.Plans.{GoodPlan, built_is_good}
 use Rattle.planning.specs.declared.request.Request.{Request}
-use Rattle.planning.specs.Output.{full_mask, rows_of, cols_of, cyclic_rules, cyclic_plan, cyclic_weights}
+use Rattle.planning.specs.Output.{full_mask, rows_of, cols_of, cyclic_rules, cyclic_plan, cyclic_shape, cyclic_weights}
 use Rattle.planning.specs.Steps.{side_of, table_in, Lists}
 
 -- an order that is not allowed is refused, whatever is lent: 3 or 7
 pub order_refused : (order lift : ℕ) (table : List ℤ) (mask : List ℕ) (room : Room) → outside 4 7 order ≡ true
-    → lowest (build_rules order lift table mask room) ≡ some (cond (outside 1 4096 lift) Lift Order)
+    → lowest (build_rules order lift table mask room) ≡ Some (cond (outside 1 4096 lift) Lift Order)
 unfolding lowest build_rules table_rules
 order_refused order lift table mask room e = rw e (step (outside 1 4096 lift))
   where
-    step : (t : Bool) → cond t (some Lift) (some Order) ≡ some (cond t Lift Order)
+    step : (t : Bool) → cond t (Some Lift) (Some Order) ≡ Some (cond t Lift Order)
     step true = refl
     step false = refl
 
@@ -57,7 +60,7 @@ weight_full order h k =
     eqb-true _ _ (subst (λ (n : ℕ). eqb (weight n (full_mask n)) n ≡ true) e (all_at 4 (λ m. eqb (weight (m + 4) (full_mask (m + 4))) (m + 4)) refl (order - 4) (omega arith)))
 
 -- a built plan is good: well formed, and passing at 12
-module _ (q : Request) (room : ℕ) (e : lowest (cyclic_rules q room) ≡ none) where
+module _ (q : Request) (room : ℕ) (e : lowest (cyclic_rules q room) ≡ None) where
   pub cyclic_weight : weight q.order (full_mask q.order) ≡ q.order
   unfolding cyclic_rules
   cyclic_weight = let t = (taken _ _ _ _ _ e).of_table in weight_full q.order t.least_order t.most_order
@@ -77,21 +80,21 @@ module _ (q : Request) (room : ℕ) (e : lowest (cyclic_rules q room) ≡ none) 
       (p ∙ sym w, omega arith)
 
 -- what the builder leaves, in the lent list that it had a part of
-answer : (o : Option Refusal) (order L : ℕ) → (o ≡ none → L ≡ order) → built o order L ≡ built o order order
-answer none order L h = ap (λ (k : ℕ). Built (plan_rows order k) (plan_cols order k)) (h refl)
-answer (some r) order L h = refl
+answer : (o : Option Refusal) (s t : Shape) → (o ≡ None → s ≡ t) → outcome o s ≡ outcome o t
+answer None s t h = ap Ok (h refl)
+answer (Some r) s t h = refl
 
-placed : (o : Option Refusal) (new want plan : List ℤ) (room : ℕ) → (o ≡ none → (new ≡ want) × (room ≡ length want) × (room ≤ length plan))
+placed : (o : Option Refusal) (new want plan : List ℤ) (room : ℕ) → (o ≡ None → (new ≡ want) × (room ≡ length want) × (room ≤ length plan))
     → lent o new (take room plan) ++ drop room plan ≡ lent o (sets plan 0 want) plan
-placed none new want plan room h =
+placed None new want plan room h =
     let (n, e, k) = h refl in
     let z : room ≡ 0 + length want = omega arith in
     ap (λ (l : List ℤ). l ++ drop room plan) n ∙ sym (sets-eq want plan 0 (omega arith) ∙ ap (λ (m : ℕ). want ++ drop m plan) (sym z))
-placed (some r) new want plan room h = take-append-drop room plan
+placed (Some r) new want plan room h = take-append-drop room plan
 
-either : {A : Type 0} (o : Option Refusal) (new want old : List A) → (o ≡ none → new ≡ want) → lent o new old ≡ lent o want old
-either none new want old h = h refl
-either (some r) new want old h = refl
+either : {A : Type 0} (o : Option Refusal) (new want old : List A) → (o ≡ None → new ≡ want) → lent o new old ≡ lent o want old
+either None new want old h = h refl
+either (Some r) new want old h = refl
 
 take_replicate : (k m a : ℕ) → k ≤ m → take k (replicate m a) ≡ replicate k a
 take_replicate zero m a h = refl
@@ -101,6 +104,21 @@ take_replicate (suc k) (suc m) a h = ap (λ (l : List ℕ). a ∷ l) (take_repli
 pub side_small : (order : ℕ) → side_of order < 8
 unfolding side_of
 side_small order = by_bool (outside 4 7 order) (λ e. rw e (omega arith)) (λ e. rw e (omega (arith, ((inside 4 7 order).0 e).1)))
+
+-- the sizes for the side n
+module _ (order n : ℕ) (e : n ≡ side_of order) where
+  pub side_area : n * n ≤ 49
+  side_area = let h : n < 8 = omega (arith, side_small order) in product n n h h
+
+  pub side_cols : n * (n * n) ≤ 343
+  side_cols = let h : n < 8 = omega (arith, side_small order) in cols_small n n h h
+
+  pub side_plan : 3 * (n * n) * (n * (n * n)) ≤ 50421
+  side_plan = let h : n < 8 = omega (arith, side_small order) in plan_small n n h h
+
+-- a part of a list that is long enough
+pub part_length : {A : Type 0} (n k : ℕ) (l : List A) → n ≤ k → k ≡ length l → n ≡ length (take n l)
+part_length n k l h e = sym (length-take-le n l (omega arith))
 
 -- what is lent to the builder: the parts of a list of 49 numbers, of 49 ones and of the plan, for the side n
 module _ (q : Request) (plan square : List ℤ) (n room : ℕ) (whole : length square ≡ 49) (s : n ≡ side_of q.order)
@@ -162,16 +180,16 @@ module _ (q : Request) (plan square : List ℤ) (n room : ℕ) (whole : length s
       ∙ ap (λ (k : Room). lowest (build_rules q.order q.lift (supplied_table Cyclic q.order) (full_mask q.order) k)) (room_is e))
 
   -- where nothing is refused, the order is allowed
-  taken_order : refusal ≡ none → outside 4 7 q.order ≡ false
+  taken_order : refusal ≡ None → outside 4 7 q.order ≡ false
   taken_order e = let t = (taken _ _ _ _ _ e).of_table in (inside 4 7 q.order).1 (t.least_order, t.most_order)
 
-  weight_is : refusal ≡ none → weight q.order mask ≡ q.order
+  weight_is : refusal ≡ None → weight q.order mask ≡ q.order
   weight_is e = ap (weight q.order) (mask_is (taken_order e)) ∙ cyclic_weight q (length plan) (sym same_refusal ∙ e)
 
-  pub lent_answer : built refusal q.order (weight q.order mask) ≡ built (lowest (cyclic_rules q (length plan))) q.order q.order
+  pub lent_answer : outcome refusal (built_shape q.order q.lift mask) ≡ outcome (lowest (cyclic_rules q (length plan))) (cyclic_shape q)
   lent_answer =
-      answer refusal q.order (weight q.order mask) weight_is
-      ∙ ap (λ (o : Option Refusal). built o q.order q.order) same_refusal
+      answer refusal (built_shape q.order q.lift mask) (cyclic_shape q) (λ e. ap (λ (L : ℕ). shape_of (plan_rows q.order L) (plan_cols q.order L) q.lift) (weight_is e))
+      ∙ ap (λ (o : Option Refusal). outcome o (cyclic_shape q)) same_refusal
 
   same_plan : outside 4 7 q.order ≡ false → built_plan q.order q.lift table mask ≡ cyclic_plan q
   unfolding cyclic_plan
@@ -192,7 +210,7 @@ module _ (q : Request) (plan square : List ℤ) (n room : ℕ) (whole : length s
       ∙ ap (λ (o : Option Refusal). lent o (sets plan 0 (cyclic_plan q)) plan) same_refusal
 
   -- a list of weights, of the three together
-  pub lent_weights : (side : Side) (of : Held → List ℕ) → of new ≡ weights_of new.plan (built_shape q.order q.lift mask) side
+  lent_weights : (side : Side) (of : Held → List ℕ) → of new ≡ weights_of new.plan (built_shape q.order q.lift mask) side
       → of (after_build q.order q.lift table mask part) ≡ lent (lowest (cyclic_rules q (length plan))) (cyclic_weights q side) (of part)
   unfolding cyclic_weights
   lent_weights side of is =
@@ -200,3 +218,9 @@ module _ (q : Request) (plan square : List ℤ) (n room : ℕ) (whole : length s
       ∙ either refusal (of new) (cyclic_weights q side) (of part)
       (λ e. is ∙ ap₂ (λ (p : List ℤ) (L : ℕ). weights_of p (shape_of (plan_rows q.order L) (plan_cols q.order L) q.lift) side) (same_plan (taken_order e)) (weight_is e))
       ∙ ap (λ (o : Option Refusal). lent o (cyclic_weights q side) (of part)) same_refusal
+
+  pub lent_rows : (after_build q.order q.lift table mask part).rows ≡ lent (lowest (cyclic_rules q (length plan))) (cyclic_weights q Checks) byrow
+  lent_rows = lent_weights Checks (λ h. h.rows) refl
+
+  pub lent_cols : (after_build q.order q.lift table mask part).cols ≡ lent (lowest (cyclic_rules q (length plan))) (cyclic_weights q Bits) bycol
+  lent_cols = lent_weights Bits (λ h. h.cols) refl

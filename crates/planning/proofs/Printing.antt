@@ -1,12 +1,14 @@
 -- Laws of printing: a line, an alist or its refusal, and the arms of the judgement. Assumes nothing.
-use Prim.Native.Nat.{ℕ, ◌+◌, ◌≤◌, min}
+use Rattle.std.specs.Prelude.{Result, Ok, Err, Option, None}
+use Rattle.refusal.specs.Answer.{outcome}
+use Rattle.refusal.proofs.Answer.{none_of_ok, some_of_err}
+use Prim.Native.Nat.{ℕ, ◌+◌, ◌≤◌, ◌<◌, min}
 use mathlib.Core.Path.{◌≡◌, refl, sym, ap, subst, ◌∙◌}
 use mathlib.Core.List.{List, [], ◌∷◌, ◌++◌}
-use mathlib.Core.Option.{Option, none, some}
 use native.Mathlib.Omega.{arith}
 use lib.IntN.{ℤ}
-use lib.ListN.{length, take, drop}
-use lib.Seq.{sets, sets-eq, length-sets, length-take-le}
+use lib.ListN.{length, get_or, drop}
+use lib.Seq.{sets, sets-eq, length-sets, drop-cons}
 use borrow.Author.Tests.{ltb-false}
 use Rattle.refusal.specs.declared.Refusal.{Refusal}
 use Rattle.refusal.specs.Number.{number}
@@ -15,30 +17,30 @@ use Rattle.refusal.proofs.Number.{number_range}
 use Rattle.refusal.proofs.Lowest.{none_holds, none_append}
 use Rattle.graph.specs.Count.{member}
 use Rattle.graph.specs.Girth.{Passes}
-use Rattle.graph.proofs.Decide.{by_le}
 use Rattle.writing.specs.Wrote.{Wrote}
-use Rattle.writing.proofs.Wrote.{wrote_then}
+use native.Mathlib.Numerals.{add-one}
+use Rattle.writing.proofs.Wrote.{Going, wrote_then, part_done}
 use Rattle.exponent.specs.Limits.{plan_rules, WellFormed}
 use Rattle.exponent.specs.Tanner.{tanner}
 use Rattle.exponent.proofs.Rules.{accepted}
-use Rattle.girth.specs.declared.GirthTest.{GirthTest}
-use Rattle.girth.specs.declared.Outcome.TheVariants.{Passed}
+use Rattle.girth.specs.declared.Cycle.{Cycle}
 use Rattle.girth.specs.Test.{allowed, Answer, refused, passed, failed}
 use Rattle.girth.proofs.Rules.{not_refused}
 use Rattle.decimal.specs.Decimal.{decimal}
-use Rattle.decimal.proofs.Digits.{length_small, length_below}
-use Rattle.alist.specs.declared.Written.TheVariants as answer
+use Rattle.decimal.proofs.Digits.{length_under}
 use Rattle.weights.specs.Weights.{shape_of}
-use Rattle.alist.specs.Calls.{alist_text, place_rules, write_rules, written, laid}
+use Rattle.alist.specs.Calls.{alist_text, place_rules, write_rules, laid}
 use Rattle.planning.specs.Output.{refused_line, printed}
 use Rattle.planning.specs.Steps.{Printed}
 
+-- bytes on the way, from the i-th on: the next one
+pub byte_done : {before text : List ℕ} {at p r : ℕ} {out : List ℕ} (bytes : List ℕ) (i : ℕ) → Going before at bytes (drop i bytes) p text → i < length bytes
+    → Wrote text p (get_or bytes i 0 ∷ []) r out → Going before at bytes (drop (i + 1) bytes) r out
+byte_done bytes i g h w = part_done (get_or bytes i 0 ∷ []) (drop (i + 1) bytes) (rw (add-one i) (drop-cons bytes i 0 h)) g w
+
 -- a refusal's number has at most two digits
 pub number_short : (r : Refusal) → length (decimal (number r)) ≤ 2
-number_short r =
-    by_le 10 (number r)
-    (λ h. omega (arith, (length_below (number r)).0 (h, let e = number_range r in omega arith)))
-    (λ h. omega (arith, length_small (number r) (omega arith)))
+number_short r = length_under 1 (number r) (let e = number_range r in omega arith)
 
 -- the line of a refusal: three runs of bytes one after the other, as far as there is room
 pub line_wrote : {before one two after : List ℕ} {a b end count n : ℕ} (r : Refusal) → n ≡ number r
@@ -49,10 +51,6 @@ line_wrote {before} {one} {two} {after} {a} {b} {end} {count} {n} r e f g h k =
     let w = wrote_then f (wrote_then (subst (λ (m : ℕ). Wrote one a (decimal m) b two) e g) h) in
     record { counted = omega (arith, k, w.place, ap length w.list, length-sets before 0 (refused_line r)); text = w.list }
 
--- as many bytes as are to be printed can be lent again, to be written out
-pub part_printed : (count room n : ℕ) (after : List ℕ) → n ≡ min count room → length after ≡ room → n ≡ length (take n after)
-part_printed count room n after e k = sym (length-take-le n after (omega arith))
-
 -- by the answer a of `write`, which left the text `after`
 module _ (plan : List ℤ) (rows cols lift : ℕ) (byrow bycol before after : List ℕ) where
   abbrev rules : Option Refusal
@@ -61,25 +59,17 @@ module _ (plan : List ℤ) (rows cols lift : ℕ) (byrow bycol before after : Li
   abbrev whole : List ℕ
   whole = alist_text plan rows cols lift
 
-  room_enough : rules ≡ none → length whole ≤ length before
+  room_enough : rules ≡ None → length whole ≤ length before
   unfolding write_rules
   room_enough e =
       let more = place_rules plan (shape_of rows cols lift) byrow bycol before in
       let (p, r) = (none_append (plan_rules plan rows cols lift) more).0 e in
       ltb-false (length before) (length whole) ((none_holds more).0 r).0
 
-  written_none : (o : Option Refusal) (k n : ℕ) → answer.Written n ≡ written k o → (o ≡ none) × (n ≡ k)
-  written_none none k n e = (refl, cc)
-  written_none (some r) k n e = absurd (let z : ◌≡◌ {A = ℕ} 0 1 = cc in omega arith)
-
-  written_some : (o : Option Refusal) (k : ℕ) (r : Refusal) → answer.Refused r ≡ written k o → o ≡ some r
-  written_some none k r e = absurd (let z : ◌≡◌ {A = ℕ} 0 1 = cc in omega arith)
-  written_some (some s) k r e = cc
-
   -- the alist is in place
-  pub alist_printed : (n : ℕ) → answer.Written n ≡ written (length whole) rules → after ≡ laid rules whole before → Printed before (printed rules whole) n after
+  pub alist_printed : (n : ℕ) → Ok n ≡ outcome rules (length whole) → after ≡ laid rules whole before → Printed before (printed rules whole) n after
   alist_printed n a l =
-      let (e, k) = written_none rules (length whole) n a in
+      let (e, k) = none_of_ok (length whole) rules n (sym a) in
       let b = room_enough e in
       let p : printed rules whole ≡ whole = ap (λ (o : Option Refusal). printed o whole) e in
       let z : 0 + length whole ≡ length whole = omega arith in
@@ -92,10 +82,10 @@ module _ (plan : List ℤ) (rows cols lift : ℕ) (byrow bycol before after : Li
       }
 
   -- the writer refused and left the text as it was, and the line is printed
-  pub line_printed : (r : Refusal) (n : ℕ) (out : List ℕ) → answer.Refused r ≡ written (length whole) rules → after ≡ laid rules whole before
+  pub line_printed : (r : Refusal) (n : ℕ) (out : List ℕ) → Err r ≡ outcome rules (length whole) → after ≡ laid rules whole before
       → Printed after (refused_line r) n out → Printed before (printed rules whole) n out
   line_printed r n out a l w =
-      let e = written_some rules (length whole) r a in
+      let e = some_of_err (length whole) rules r (sym a) in
       let p : printed rules whole ≡ refused_line r = ap (λ (o : Option Refusal). printed o whole) e in
       let s : after ≡ before = l ∙ ap (λ (o : Option Refusal). laid o whole before) e in
       record {
@@ -104,10 +94,10 @@ module _ (plan : List ℤ) (rows cols lift : ℕ) (byrow bycol before after : Li
       }
 
 -- the girth test says of a plan that passes at 12 that it does
-pub told_passed : (plan : List ℤ) (rows cols lift : ℕ) (t : GirthTest) → Answer plan rows cols lift 12 t
-    → WellFormed plan rows cols lift → Passes (tanner plan rows cols lift) 12 → t.outcome ≡ Passed
+pub told_passed : (plan : List ℤ) (rows cols lift : ℕ) (t : Result (Option Cycle) Refusal) → Answer plan rows cols lift 12 t
+    → WellFormed plan rows cols lift → Passes (tanner plan rows cols lift) 12 → t ≡ Ok None
 unfolding Passes allowed member
 told_passed plan rows cols lift t (refused x e) w p =
     absurd (let f = sym e ∙ not_refused plan rows cols lift 12 ((accepted plan rows cols lift).1 w) refl in let z : ◌≡◌ {A = ℕ} 0 1 = cc in omega arith)
 told_passed plan rows cols lift t (passed e q) w p = refl
-told_passed plan rows cols lift t (failed r e x) w p = absurd (omega (arith, p r.n _ _ x.cycle, x.short))
+told_passed plan rows cols lift t (failed c e x) w p = absurd (omega (arith, p c.n _ _ x.cycle, x.short))

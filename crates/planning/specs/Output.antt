@@ -1,6 +1,5 @@
 -- What is printed (document 01, "alist text"): the alist of the cyclic plan with the full mask, or one line "refused N".
-use Rattle.std.specs.Prelude.{ℕ, ◌*◌, min, List, [], ◌∷◌, ◌++◌, ℤ, length, replicate}
-use Rattle.std.proofs.Math.Option.{Option, none, some}
+use Rattle.std.specs.Prelude.{ℕ, ◌*◌, min, List, [], ◌∷◌, ◌++◌, ℤ, length, replicate, Option, None, Some}
 use Rattle.std.proofs.lemmas.List.Edits.{sets}
 use Rattle.refusal.specs.declared.Refusal.{Refusal}
 use Rattle.refusal.specs.Number.{number}
@@ -9,6 +8,7 @@ use Rattle.square.specs.declared.supply.Family.TheVariants.{Cyclic}
 use Rattle.square.specs.Table.{supplied_table}
 use Rattle.grid.specs.Plan.{plan_rows, plan_cols}
 use Rattle.refusal.specs.Lent.{lent}
+use Rattle.exponent.specs.declared.Shape.{Shape}
 use Rattle.weights.specs.declared.Side.{Side}
 use Rattle.weights.specs.declared.Side.TheVariants.{Bits, Checks}
 use Rattle.weights.specs.Weights.{shape_of, weights_of}
@@ -38,9 +38,13 @@ cyclic_rules q room =
 unfoldable pub cyclic_plan : Request → List ℤ
 cyclic_plan q = built_plan q.order q.lift (supplied_table Cyclic q.order) (full_mask q.order)
 
+-- its sizes
+abbrev pub cyclic_shape : Request → Shape
+cyclic_shape q = shape_of (rows_of q) (cols_of q) q.lift
+
 -- its weights
 unfoldable pub cyclic_weights : Request → Side → List ℕ
-cyclic_weights q side = weights_of (cyclic_plan q) (shape_of (rows_of q) (cols_of q) q.lift) side
+cyclic_weights q side = weights_of (cyclic_plan q) (cyclic_shape q) side
 
 -- "refused ", the refusal's number, and a line feed
 unfoldable pub refused_line : Refusal → List ℕ
@@ -48,8 +52,8 @@ refused_line r = (114 ∷ 101 ∷ 102 ∷ 117 ∷ 115 ∷ 101 ∷ 100 ∷ 32 ∷
 
 -- the line of a refusal, or what is printed where there is none
 abbrev pub printed : Option Refusal → List ℕ → List ℕ
-printed none text = text
-printed (some r) text = refused_line r
+printed None text = text
+printed (Some r) text = refused_line r
 
 -- The bytes to be printed, with so many numbers of room for the plan, and a place for the text. A built plan is judged at 12 and
 -- always passes, so nothing is said here of one that does not.

@@ -14,7 +14,6 @@ mod cyclic; // cyclic.rt: the cyclic plan with the full mask
 mod print; // print.rt: the alist, or the line of a refusal
 
 use request::Request;
-use table::Built;
 
 // The largest order's plan has 3 × 7 × 7 rows and 7 × 7 × 7 columns.
 const ROWS: usize = 147;
@@ -22,6 +21,7 @@ const ROWS: usize = 147;
 const COLS: usize = 343;
 
 // Puts the output for a request into `text`, with lists for the weights of its plan.
+#[tactic(auto, using(crate::proofs::Answers::size_small, crate::proofs::Answers::size_fits))]
 fn request_text(
     q: Request,
     plan: &mut [i16],
@@ -34,15 +34,16 @@ fn request_text(
     ensures place { plan.new ≡ lent (lowest (cyclic_rules q (length plan.old))) (sets plan.old 0 (cyclic_plan q)) plan.old }
 {
     match cyclic::build(q, plan, byrow, bycol) {
-        Built::Built { rows, cols } => {
-            let end = rows * cols;
-            print::judged(&plan[..end], rows, cols, q.lift, byrow, bycol, text)
+        Ok(s) => {
+            let end = s.rows * s.cols;
+            print::judged(&plan[..end], s.rows, s.cols, s.lift, byrow, bycol, text)
         }
-        Built::Refused(r) => print::refused(r, text),
+        Err(r) => print::refused(r, text),
     }
 }
 
 // Puts what is to be printed into `text`, as far as there is room, and returns how many bytes of it that is.
+#[tactic(auto, using(crate::proofs::Plans::side_area, crate::proofs::Plans::side_cols, crate::proofs::Answers::told))]
 pub fn plan_text(input: &[u8], plan: &mut [i16], text: &mut [u8]) -> usize
     ensures count { result ≡ min (length (output input.now (length plan.old) text.old)) (length text.old) }
     ensures bytes { text.new ≡ sets text.old 0 (output input.now (length plan.old) text.old) }

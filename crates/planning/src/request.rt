@@ -5,13 +5,14 @@ use crate::number;
 use tokens::Form;
 
 // What is asked for: the order J and the lift P.
-#[derive(Clone, Copy)]
+#[derive(Clone, Copy, Debug, PartialEq, Eq)]
 pub struct Request {
     pub order: usize,
     pub lift: usize,
 }
 
 // The numbers of the first two tokens of a text.
+#[tactic(auto, using(tokens::proofs::Runs::token_in, crate::proofs::Tokens::next_stop, crate::proofs::Tokens::next_number, crate::proofs::Tokens::request_is))]
 fn read_tokens(text: &[u8]) -> Request
     ensures { result ≡ request_in text.now }
 {
@@ -28,8 +29,5 @@ fn read_tokens(text: &[u8]) -> Request
 pub fn read(input: &[u8]) -> Request
     ensures { result ≡ request_of input.now }
 {
-    if 256 < input.len() {
-        return read_tokens(&input[..256]);
-    }
-    read_tokens(input)
+    read_tokens(&input[..input.len().min(256)])
 }

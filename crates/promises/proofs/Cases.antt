@@ -1,8 +1,11 @@
 -- The starred bench cases hold: those of the girth test from what its model computes and promise 2, the others computed. Assumes nothing.
+use Rattle.std.specs.Prelude.{Result, Ok, None, Option}
+use Rattle.exponent.specs.Plan.{shape_of}
+use Rattle.std.specs.Prelude.{Err}
 use Prim.Native.Nat.{ℕ, ◌*◌, ◌≤◌}
 use mathlib.Core.Path.{◌≡◌, refl, sym, ap, subst, ◌∙◌}
 use mathlib.Core.List.{List, [], ◌∷◌}
-use mathlib.Core.Option.{some}
+use Rattle.std.specs.Prelude.{Some}
 use native.Mathlib.Omega.{arith}
 use lib.IntN.{ℤ}
 use lib.ListN.{length, get_or, take}
@@ -22,21 +25,17 @@ use Rattle.exponent.specs.Limits.{outside, plan_rules}
 use Rattle.exponent.specs.Tanner.{tanner}
 use Rattle.exponent.proofs.Rules.{inside, accepted}
 use Rattle.walks.proofs.OneRow.{one_row_passes}
-use Rattle.girth.specs.declared.GirthTest.{GirthTest}
-use Rattle.girth.specs.declared.Outcome.TheVariants.{Passed, Failed, Refused}
+use Rattle.girth.specs.declared.Cycle.{Cycle}
 use Rattle.girth.specs.Test.{test_rules, Answer, refused, passed, failed}
 use Rattle.girth.specs.Model.{model}
 use Rattle.girth.proofs.Cases.{computed}
 use Rattle.girth.proofs.Model.{model_answer}
-use Rattle.syndrome.specs.declared.Syndrome.TheVariants.{Odd}
 use Rattle.syndrome.specs.Word.{byte_rules, word_rules}
 use Rattle.syndrome.specs.Check.{check_rules, lowest_odd, syndrome_of}
-use Rattle.peeling.specs.declared.Filling.TheVariants.{Filled, Refused as NotFilled}
 use Rattle.peeling.specs.Fill.{fill_rules, fill_answer, fill_word}
 use Rattle.square.specs.Table.{quads, supplied_table}
 use Rattle.square.specs.Mask.{mask_at, row_ones, column_ones, weighs, common, weight}
 use Rattle.grid.specs.Plan.{columns, rows, table_plan}
-use Rattle.table.specs.declared.Built.TheVariants.{Built, Refused as NotBuilt}
 use Rattle.table.specs.Build.{table_rules, mask_rules, build_rules, built_plan}
 use Rattle.decimal.specs.Decimal.{digits, decimal}
 use Rattle.tokens.specs.Bytes.{bytes}
@@ -52,29 +51,29 @@ use Rattle.promises.proofs.Two.{verdict, passing_12}
 -- THE GIRTH TEST: what the model's answer is, every answer is
 
 module _ (plan : List ℤ) (rows cols lift target : ℕ) where
-  module _ (a : GirthTest) (e : model plan rows cols lift target ≡ a) where
+  module _ (a : Result (Option Cycle) Refusal) (e : model plan rows cols lift target ≡ a) where
     computed_answer : Answer plan rows cols lift target a
     computed_answer = subst (Answer plan rows cols lift target) e (model_answer plan rows cols lift target)
 
-    passing : a.outcome ≡ Passed → Passing plan rows cols lift target
+    passing : a ≡ Ok None → Passing plan rows cols lift target
     passing q r h = (verdict plan rows cols lift target h).passed.1 ((verdict plan rows cols lift target computed_answer).passed.0 q)
 
-    failing : a.outcome ≡ Failed → Failing plan rows cols lift target
-    failing q r h = (verdict plan rows cols lift target h).failed.1 ((verdict plan rows cols lift target computed_answer).failed.0 q)
+    failing : (k : Cycle) → a ≡ Ok (Some k) → Failing plan rows cols lift target
+    failing k q r h = (verdict plan rows cols lift target h).failed.1 ((verdict plan rows cols lift target computed_answer).failed.0 (k, q))
 
     -- and every answer shows as many edges, since both numbers are the girth
-    failing_with : a.outcome ≡ Failed → FailingWith (2 * a.n) plan rows cols lift target
-    failing_with q r h =
-        let f = failing q r h in
-        (f, one_girth (tanner plan rows cols lift) ((verdict plan rows cols lift target h).girth f) ((verdict plan rows cols lift target computed_answer).girth q))
+    failing_with : (k : Cycle) → a ≡ Ok (Some k) → FailingWith (2 * k.n) plan rows cols lift target
+    failing_with k q r h =
+        let f = failing k q r h in
+        (f.0, f.1, one_girth (tanner plan rows cols lift) ((verdict plan rows cols lift target h).girth f.0 f.1) ((verdict plan rows cols lift target computed_answer).girth k q))
 
-  turned_away : (x : Refusal) → lowest (test_rules plan rows cols lift target) ≡ some x → {r : GirthTest} → Answer plan rows cols lift target r → r.outcome ≡ Refused x
-  turned_away x e (refused y q) = let s : y ≡ x = cc in ap Refused s
+  turned_away : (x : Refusal) → lowest (test_rules plan rows cols lift target) ≡ Some x → {r : Result (Option Cycle) Refusal} → Answer plan rows cols lift target r → r ≡ Err x
+  turned_away x e (refused y q) = let s : y ≡ x = cc in ap Err s
   turned_away x e (passed q p) = absurd (let z : ◌≡◌ {A = ℕ} 0 1 = cc in omega arith)
   turned_away x e (failed r q w) = absurd (let z : ◌≡◌ {A = ℕ} 0 1 = cc in omega arith)
 
 -- rows and columns are in range, so 3 is the first refusal that applies
-lift_4097 : (plan : List ℤ) (cols : ℕ) → 1 ≤ cols → cols ≤ 512 → lowest (test_rules plan 1 cols 4097 12) ≡ some Lift
+lift_4097 : (plan : List ℤ) (cols : ℕ) → 1 ≤ cols → cols ≤ 512 → lowest (test_rules plan 1 cols 4097 12) ≡ Some Lift
 unfolding test_rules plan_rules
 lift_4097 plan cols h k =
     lowest_next (outside 1 192 1) Rows _ refl
@@ -83,11 +82,11 @@ lift_4097 plan cols h k =
 
 -- TABLE PLANS
 
-cyclic_6 : cyclic_answer 6 ≡ NotBuilt (Unsound 0 2 1 3)
+cyclic_6 : cyclic_answer 6 ≡ Err (Unsound 0 2 1 3)
 unfolding lowest build_rules table_rules mask_rules first_place quads supplied_table
 cyclic_6 = refl
 
-cyclic_7 : (cyclic_answer 7 ≡ Built 48 64) × ((tanner (cyclic_plan 7) 48 64 7).bits ≡ 448)
+cyclic_7 : (cyclic_answer 7 ≡ Ok (shape_of 48 64 7)) × ((tanner (cyclic_plan 7) 48 64 7).bits ≡ 448)
 unfolding lowest build_rules table_rules mask_rules first_place quads supplied_table range count row_ones column_ones weighs common weight tanner
 cyclic_7 = (refl, refl)
 
@@ -107,15 +106,15 @@ cyclic_text = begins (alist_text (cyclic_plan 7) 48 64 7) (sizes_line 48 64 7) (
 -- THE ONE-ROW PLAN 0 1
 
 -- a check with one erasure fills it, one with two leaves them, and an odd check without an erasure is refused
-filled_words : (fill_answer pair 1 2 2 (1 ∷ 0 ∷ 0 ∷ 2 ∷ []) ≡ Filled 1 0) × (fill_word pair 1 2 2 (1 ∷ 0 ∷ 0 ∷ 2 ∷ []) ≡ 1 ∷ 0 ∷ 0 ∷ 1 ∷ [])
-    × (fill_answer pair 1 2 2 (2 ∷ 0 ∷ 0 ∷ 2 ∷ []) ≡ Filled 0 2) × (fill_word pair 1 2 2 (2 ∷ 0 ∷ 0 ∷ 2 ∷ []) ≡ 2 ∷ 0 ∷ 0 ∷ 2 ∷ [])
-    × (fill_answer pair 1 2 2 (1 ∷ 2 ∷ 2 ∷ 0 ∷ []) ≡ NotFilled NoSolution) × (fill_word pair 1 2 2 (1 ∷ 2 ∷ 2 ∷ 0 ∷ []) ≡ 1 ∷ 2 ∷ 2 ∷ 0 ∷ [])
+filled_words : (fill_answer pair 1 2 2 (1 ∷ 0 ∷ 0 ∷ 2 ∷ []) ≡ Ok (record { filled = 1; left = 0 })) × (fill_word pair 1 2 2 (1 ∷ 0 ∷ 0 ∷ 2 ∷ []) ≡ 1 ∷ 0 ∷ 0 ∷ 1 ∷ [])
+    × (fill_answer pair 1 2 2 (2 ∷ 0 ∷ 0 ∷ 2 ∷ []) ≡ Ok (record { filled = 0; left = 2 })) × (fill_word pair 1 2 2 (2 ∷ 0 ∷ 0 ∷ 2 ∷ []) ≡ 2 ∷ 0 ∷ 0 ∷ 2 ∷ [])
+    × (fill_answer pair 1 2 2 (1 ∷ 2 ∷ 2 ∷ 0 ∷ []) ≡ Err NoSolution) × (fill_word pair 1 2 2 (1 ∷ 2 ∷ 2 ∷ 0 ∷ []) ≡ 1 ∷ 2 ∷ 2 ∷ 0 ∷ [])
 unfolding fill_answer fill_word fill_rules word_rules byte_rules plan_rules lowest first_place
     filled_word fill_rounds fill_round forced clash odd_check filled_count left_count largest peels peel
     only any member count parity total bits_of tanner select range block_at entry_at
 filled_words = (refl, refl, refl, refl, refl, refl)
 
-check_1_odd : syndrome_of pair 1 2 2 (1 ∷ 0 ∷ 1 ∷ 1 ∷ []) ≡ Odd 1
+check_1_odd : syndrome_of pair 1 2 2 (1 ∷ 0 ∷ 1 ∷ 1 ∷ []) ≡ Ok (Some 1)
 unfolding syndrome_of check_rules word_rules byte_rules plan_rules lowest first_place lowest_odd parity total bits_of tanner select range block_at entry_at
 check_1_odd = refl
 
@@ -128,12 +127,12 @@ pub bench_cases : BenchCases
 bench_cases =
     let (c₀, (c₁, (c₂, (c₃, (c₄, (c₅, (c₆, _))))))) = computed in
     record {
-      zeros_fails_6 = failing_with _ 2 2 1 6 _ c₀ refl;
+      zeros_fails_6 = failing_with _ 2 2 1 6 _ c₀ _ refl;
       corner_passes_8 = passing _ 2 2 2 8 _ c₁ refl;
-      corner_fails_10 = failing_with _ 2 2 2 10 _ c₂ refl;
+      corner_fails_10 = failing_with _ 2 2 2 10 _ c₂ _ refl;
       corner_passes_12 = passing _ 2 2 3 12 _ c₃ refl;
-      corner_2_fails_10 = failing _ 2 2 4 10 _ c₄ refl;
-      example_1_fails_6 = failing _ 3 4 2 6 _ c₅ refl;
+      corner_2_fails_10 = failing _ 2 2 4 10 _ c₄ _ refl;
+      example_1_fails_6 = failing _ 3 4 2 6 _ c₅ _ refl;
       one_row_passes_12 = λ plan cols lift e. passing_12 plan 1 cols lift e (one_row_passes plan cols lift ((accepted plan 1 cols lift).0 e).some_lift 12);
       lift_4096_taken = passing _ 1 3 4096 12 _ c₆ refl;
       lift_4097_refused = λ plan cols h k r a. (Lift, turned_away plan 1 cols 4097 12 Lift (lift_4097 plan cols h k) a, refl, refl);

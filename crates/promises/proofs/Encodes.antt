@@ -1,8 +1,10 @@
--- What the encoder answers `Encoded` for is what slip 10 says. Assumes nothing.
+-- What the encoder answers `Ok` for is what slip 10 says. Assumes nothing.
+use Rattle.std.specs.Prelude.{Ok}
+use Rattle.refusal.specs.Answer.{ok_unless}
 use Prim.Native.Nat.{ℕ}
 use mathlib.Core.Path.{◌≡◌, refl, sym, ap, subst, ◌∙◌}
 use mathlib.Core.List.{List}
-use mathlib.Core.Option.{Option, none, some}
+use Rattle.std.specs.Prelude.{Option, None, Some}
 use native.Mathlib.Omega.{arith}
 use lib.IntN.{ℤ}
 use lib.ListN.{length}
@@ -11,18 +13,17 @@ use Rattle.refusal.specs.Lowest.{lowest}
 use Rattle.syndrome.proofs.Rules.{even_exactly}
 use Rattle.bidiagonal.specs.Shape.{third_shift}
 use Rattle.bidiagonal.proofs.Judging.{diagonals, third_some, third_low}
-use Rattle.encoding.specs.declared.Encoding.TheVariants.{Encoded}
 use Rattle.encoding.specs.Encoded.{encoded_word}
-use Rattle.encoding.specs.Encode.{encode_rules, or_zero, word_of, encode_refusal, encoding}
+use Rattle.encoding.specs.Encode.{encode_rules, or_zero, word_of, encode_refusal}
 use Rattle.encoding.proofs.Words.{encoded_carries}
 use Rattle.encoding.proofs.Only.{encoded_codeword, encoded_only}
 use Rattle.encoding.proofs.Rules.{Accepted, accepted}
 use Rattle.promises.specs.Encodes.{Encodes, EncodedWords}
 
--- an answer `Encoded` is that there is no refusal
-not_refused : (o : Option Refusal) → encoding o ≡ Encoded → o ≡ none
-not_refused none e = refl
-not_refused (some r) e = absurd (let z : ◌≡◌ {A = ℕ} 0 1 = cc in omega arith)
+-- an answer `Ok` is that there is no refusal
+not_refused : (o : Option Refusal) → ok_unless o ≡ Ok tt → o ≡ None
+not_refused None e = refl
+not_refused (Some r) e = absurd (let z : ◌≡◌ {A = ℕ} 0 1 = cc in omega arith)
 
 -- the codeword of accepted data bits
 encodes : (plan : List ℤ) (rows cols lift : ℕ) (info : List ℕ) → Accepted plan rows cols lift info → Encodes plan rows cols lift info (word_of plan rows cols lift info)
@@ -49,7 +50,7 @@ encoded_words =
           rw q (encodes plan rows cols lift info (accepted plan rows cols lift info (length word) q));
       unread = λ plan rows cols lift info u v e.
           let same : encode_refusal plan rows cols lift info u ≡ encode_refusal plan rows cols lift info v = λ k. lowest (encode_rules plan rows cols lift info (e k)) in (
-            ap encoding same,
+            ap ok_unless same,
             λ r. let q = not_refused (encode_refusal plan rows cols lift info u) r in rw (q, sym same ∙ q),
           );
     }

@@ -1,9 +1,12 @@
 -- What slip 11 says of lost and wrong bits together holds, by graph's laws of errors. Assumes nothing.
+use Rattle.refusal.specs.Answer.{outcome}
+use Rattle.std.specs.Prelude.{Some}
+use Rattle.std.specs.Prelude.{Ok}
 use Prim.Native.Nat.{ℕ, ◌*◌, ◌≤◌, ◌<◌}
 use mathlib.Core.Path.{◌≡◌, refl, ap, ◌∙◌}
 use mathlib.Core.Bool.{Bool, false, not, cond}
 use mathlib.Core.List.{List}
-use mathlib.Core.Option.{Option, none}
+use Rattle.std.specs.Prelude.{Option, None}
 use native.Mathlib.Omega.{arith}
 use borrow.Author.Tests.{eq-eqb, ne_eqb}
 use lib.Dec.{ltb}
@@ -27,8 +30,7 @@ use Rattle.exponent.specs.Limits.{WellFormed}
 use Rattle.exponent.specs.Tanner.{tanner, ThreeBlocks}
 use Rattle.exponent.proofs.Tanner.{three_checks}
 use Rattle.girth.proofs.Rules.{formed}
-use Rattle.syndrome.specs.declared.Syndrome.TheVariants.{Even, Odd}
-use Rattle.syndrome.specs.Check.{check_rules, lowest_odd, found, answer, syndrome_of}
+use Rattle.syndrome.specs.Check.{check_rules, lowest_odd, found, syndrome_of}
 use Rattle.syndrome.proofs.Rules.{word_accepted, check_accepted, even_exactly}
 use Rattle.peeling.proofs.Rules.{clash_refused}
 use Rattle.promises.specs.Three.{Bound, T, Loses}
@@ -60,15 +62,15 @@ without_errors v r e read = record { same_length = read.same_length; kept = kept
         absurd (omega (arith, read.few_wrong, count_mem (wrong v r) b (below (length r)) (below_mem b (length r) h) error))))
 
 -- a valid word of bits that is no codeword has an odd check
-odd_check_law : (plan : List ℤ) (rows cols lift : ℕ) (w : List ℕ) → lowest (check_rules plan rows cols lift w) ≡ none → (syndrome_of plan rows cols lift w ≡ Even → ⊥)
-    → (c : ℕ) × (syndrome_of plan rows cols lift w ≡ Odd c)
+odd_check_law : (plan : List ℤ) (rows cols lift : ℕ) (w : List ℕ) → lowest (check_rules plan rows cols lift w) ≡ None → (syndrome_of plan rows cols lift w ≡ Ok None → ⊥)
+    → (c : ℕ) × (syndrome_of plan rows cols lift w ≡ Ok (Some c))
 unfolding syndrome_of
 odd_check_law plan rows cols lift w valid odd =
     let low : ℕ = lowest_odd (tanner plan rows cols lift) w in
-    let told = ap (λ (o : Option Refusal). answer o (found (rows * lift) low)) valid in
+    let told = ap (λ (o : Option Refusal). outcome o (found (rows * lift) low)) valid in
     by_bool (ltb low (rows * lift))
-    (λ e. (low, told ∙ ap (λ (t : Bool). cond t (Odd low) Even) e))
-    (λ e. absurd (odd (told ∙ ap (λ (t : Bool). cond t (Odd low) Even) e)))
+    (λ e. (low, told ∙ ap (λ (t : Bool). outcome {E = Refusal} None (cond t (Some low) None)) e))
+    (λ e. absurd (odd (told ∙ ap (λ (t : Bool). outcome {E = Refusal} None (cond t (Some low) None)) e)))
 
 module _ (plan : List ℤ) (rows cols lift target bound : ℕ) (at : Bound target bound) (well : WellFormed plan rows cols lift)
     (no-cycle : Passes (tanner plan rows cols lift) target) (three : ThreeBlocks plan rows cols lift) where

@@ -1,4 +1,5 @@
 -- The Fano plane's code reaches T at 6: no triple, and the four triples without point 0, which have each other point twice. Assumes nothing.
+use Rattle.std.specs.Prelude.{None, Ok}
 use Prim.Native.Nat.{ℕ, zero, suc, ◌+◌, ◌*◌, ◌≤◌}
 use mathlib.Core.Path.{◌≡◌, refl}
 use mathlib.Core.Bool.{true}
@@ -20,7 +21,6 @@ use Rattle.graph.proofs.Cases.{all, all_at}
 use Rattle.exponent.specs.Plan.{entry_at, block_at}
 use Rattle.exponent.specs.Limits.{plan_rules}
 use Rattle.exponent.specs.Tanner.{tanner}
-use Rattle.syndrome.specs.declared.Syndrome.TheVariants.{Even}
 use Rattle.syndrome.specs.Word.{byte_rules, word_rules}
 use Rattle.syndrome.specs.Check.{check_rules, lowest_odd, syndrome_of}
 use Rattle.syndrome.proofs.Rules.{even_exactly}
@@ -40,7 +40,7 @@ nothing = replicate 7 0
 abbrev four : List ℕ
 four = 0 ∷ 0 ∷ 0 ∷ 1 ∷ 1 ∷ 1 ∷ 1 ∷ []
 
-both_even : (syndrome_of fano 7 7 1 nothing ≡ Even) × (syndrome_of fano 7 7 1 four ≡ Even)
+both_even : (syndrome_of fano 7 7 1 nothing ≡ Ok None) × (syndrome_of fano 7 7 1 four ≡ Ok None)
 unfolding syndrome_of check_rules word_rules byte_rules plan_rules lowest first_place lowest_odd parity total bits_of tanner select range block_at entry_at
     steiner_plan entry cols start_among start triple_at points
 both_even = (refl, refl)

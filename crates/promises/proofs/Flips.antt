@@ -1,8 +1,10 @@
 -- What slip 12 says of a round holds, by graph's laws of bit flipping. Assumes nothing.
+use Rattle.std.specs.Prelude.{Ok}
+use Rattle.refusal.specs.Answer.{outcome}
 use Prim.Native.Nat.{ℕ, ◌*◌, ◌<◌}
 use mathlib.Core.Path.{◌≡◌, refl, sym, ap, subst₂, ◌∙◌}
 use mathlib.Core.List.{List}
-use mathlib.Core.Option.{Option, none, some}
+use Rattle.std.specs.Prelude.{Option, None, Some}
 use native.Mathlib.Omega.{arith}
 use lib.IntN.{ℤ}
 use lib.ListN.{length, get_or}
@@ -21,8 +23,7 @@ use Rattle.exponent.proofs.Tanner.{three_checks}
 use Rattle.girth.proofs.Rules.{formed}
 use Rattle.syndrome.specs.Check.{check_rules}
 use Rattle.syndrome.proofs.Rules.{check_accepted}
-use Rattle.flipping.specs.declared.Flipping.TheVariants.{Flipped}
-use Rattle.flipping.specs.Flip.{flip_rules, flipping, flip_answer, flip_word}
+use Rattle.flipping.specs.Flip.{flip_rules, flip_answer, flip_word}
 use Rattle.flipping.proofs.Rules.{all_three, not_refused}
 use Rattle.promises.specs.Flips.{Turns, ExactlyThree, TurnedBits}
 use Rattle.promises.proofs.Two.{verdict}
@@ -30,9 +31,9 @@ use Rattle.promises.proofs.Three.{whole}
 use Rattle.promises.proofs.Errors.{all_known}
 
 -- a number is reported only where nothing is refused
-reported : (o : Option Refusal) (m n : ℕ) → flipping o m ≡ Flipped n → (o ≡ none) × (m ≡ n)
-reported none m n e = (refl, cc)
-reported (some r) m n e = absurd (let z : ◌≡◌ {A = ℕ} 0 1 = cc in omega arith)
+reported : (o : Option Refusal) (m n : ℕ) → outcome o m ≡ Ok n → (o ≡ None) × (m ≡ n)
+reported None m n e = (refl, cc)
+reported (Some r) m n e = absurd (let z : ◌≡◌ {A = ℕ} 0 1 = cc in omega arith)
 
 module _ (plan : List ℤ) (rows cols lift : ℕ) where
   abbrev G : Bipartite
@@ -55,7 +56,7 @@ module _ (plan : List ℤ) (rows cols lift : ℕ) where
     turns w v n len known (word, count) =
         let valid = (check_accepted plan rows cols lift w).1 (well, len, known) in
         let a = not_refused plan rows cols lift w valid ((all_three plan rows cols lift).1 (λ j h. omega (arith, three j h))) in
-        record { reported = sym a.answered ∙ ap Flipped count; left = sym a.leaves ∙ word }
+        record { reported = sym a.answered ∙ ap Ok count; left = sym a.leaves ∙ word }
 
     checks : ThreeChecks (tanner plan rows cols lift)
     unfolding ThreeBlocks

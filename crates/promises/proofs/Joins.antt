@@ -1,10 +1,12 @@
--- What the join answers `Joined` for is what slip 9 says. Assumes nothing.
+-- What the join answers `Ok` for is what slip 9 says. Assumes nothing.
+use Rattle.std.specs.Prelude.{Ok}
+use Rattle.refusal.specs.Answer.{outcome}
 use Prim.Native.Nat.{ℕ, zero, suc, ◌*◌, ◌%◌, ◌<◌}
 use mathlib.Core.Path.{◌≡◌, refl, sym, subst, ◌∙◌}
 use mathlib.Core.Logic.{◌⊎◌, inl, inr}
 use mathlib.Core.Bool.{true, false, not}
 use mathlib.Core.List.{List, [], ◌∷◌}
-use mathlib.Core.Option.{Option, none, some}
+use Rattle.std.specs.Prelude.{Option, None, Some}
 use native.Mathlib.Omega.{arith}
 use native.Mathlib.Nat.{mod-mod}
 use lib.IntN.{ℤ, pos, negsuc}
@@ -28,9 +30,8 @@ use Rattle.weights.specs.declared.Side.TheVariants.{Bits, Checks}
 use Rattle.weights.specs.Weights.{shape_of, lanes, weight_of, weights_of}
 use Rattle.weights.proofs.Weights.{length_weights, weights_at, weights_by}
 use Rattle.girth.specs.Test.{allowed, test_rules}
-use Rattle.crt.specs.declared.Joining.TheVariants.{Joined}
 use Rattle.crt.specs.Remainders.{remainders}
-use Rattle.crt.specs.Join.{joined_entry, joined_plan, Sized, join_refusal, joining}
+use Rattle.crt.specs.Join.{joined_entry, joined_plan, Sized, join_refusal}
 use Rattle.crt.specs.Work.{UnitOf}
 use Rattle.crt.proofs.Units.{unit_of}
 use Rattle.crt.proofs.Remainders.{only_number, remainders_low, remainders_first, remainders_second}
@@ -59,7 +60,7 @@ module _ (P Q u : ℕ) (some_p : 0 < P) (some_q : 0 < Q) (unit : UnitOf P Q u) w
       let second : x % Q ≡ f % Q = remainders_second P Q u some_p some_q unit (e % P) (f % Q) ∙ mod-mod f Q in
       is_filled e f x low first second (λ y h p q. only_number P Q u some_p some_q unit y x h low (p ∙ sym first) (q ∙ sym second))
 
-module _ (a b : Sized) (room : ℕ) (accepted : join_refusal a b room ≡ none) where
+module _ (a b : Sized) (room : ℕ) (accepted : join_refusal a b room ≡ None) where
   abbrev P : ℕ
   P = a.lift
 
@@ -118,7 +119,7 @@ module _ (a b : Sized) (room : ℕ) (accepted : join_refusal a b room ≡ none) 
 
   -- a test that a plan passes says that its graph does, and that the target is allowed
   passing : (c : Sized) (target : ℕ) → TestPassed c target
-      → (lowest (refuse Target (not (allowed target)) ∷ []) ≡ none) × Passes (tanner c.plan c.rows c.cols c.lift) target
+      → (lowest (refuse Target (not (allowed target)) ∷ []) ≡ None) × Passes (tanner c.plan c.rows c.cols c.lift) target
   unfolding test_rules
   passing c target p =
       let (e, h) = (verdict c.plan c.rows c.cols c.lift target p.answer).passed.0 p.passed in
@@ -132,7 +133,7 @@ module _ (a b : Sized) (room : ℕ) (accepted : join_refusal a b room ≡ none) 
       ((none_append (plan_rules plan a.rows a.cols (P * Q)) (refuse Target (not (allowed target)) ∷ [])).1 ((plan_laws.accepted plan a.rows a.cols (P * Q)).1 well_formed, allow), graph_passes target h)
     where
       either : TestPassed a target ⊎ TestPassed b target
-          → (lowest (refuse Target (not (allowed target)) ∷ []) ≡ none) × (Passes (tanner a.plan a.rows a.cols P) target ⊎ Passes (tanner b.plan b.rows b.cols Q) target)
+          → (lowest (refuse Target (not (allowed target)) ∷ []) ≡ None) × (Passes (tanner a.plan a.rows a.cols P) target ⊎ Passes (tanner b.plan b.rows b.cols Q) target)
       either (inl p) = let (allow, h) = passing a target p in (allow, inl h)
       either (inr p) = let (allow, h) = passing b target p in (allow, inr h)
 
@@ -143,7 +144,7 @@ module _ (a b : Sized) (room : ℕ) (accepted : join_refusal a b room ≡ none) 
 pub joined_plans : JoinedPlans
 joined_plans a b place lift = go (join_refusal a b (length place)) refl
   where
-    go : (o : Option Refusal) → join_refusal a b (length place) ≡ o → joining o (a.lift * b.lift) ≡ Joined lift
+    go : (o : Option Refusal) → join_refusal a b (length place) ≡ o → outcome o (a.lift * b.lift) ≡ Ok lift
         → (lift ≡ a.lift * b.lift) × Joins a b (lent o (joined_plan a.plan a.lift b.plan b.lift) place)
-    go none q e = let r : a.lift * b.lift ≡ lift = cc in (sym r, joins a b (length place) q)
-    go (some x) q e = absurd (let z : ◌≡◌ {A = ℕ} 0 1 = cc in omega arith)
+    go None q e = let r : a.lift * b.lift ≡ lift = cc in (sym r, joins a b (length place) q)
+    go (Some x) q e = absurd (let z : ◌≡◌ {A = ℕ} 0 1 = cc in omega arith)

@@ -6,7 +6,7 @@ use mathlib.Core.Path.{◌≡◌, refl, sym, ap, ◌∙◌}
 use mathlib.Core.Logic.{◌⊎◌, inl, inr}
 use mathlib.Core.Bool.{Bool, true}
 use mathlib.Core.List.{List, [], ◌∷◌, ◌++◌}
-use mathlib.Core.Option.{some}
+use Rattle.std.specs.Prelude.{Some}
 use native.Mathlib.Omega.{arith}
 use Rattle.refusal.specs.declared.Refusal.{Refusal}
 use Rattle.refusal.specs.Number.{number, values}
@@ -41,7 +41,7 @@ pub record Matches (rules : List Rule) (Applies : ℕ → List ℕ → Type 0) :
 
 -- THE LAW, used for every call
 module _ (rules : List Rule) (rise : rising rules ≡ true) (Applies : ℕ → List ℕ → Type 0) (m : Matches rules Applies) where
-  to_words : (r : Refusal) → lowest rules ≡ some r → Lowest Applies (number r) (values r)
+  to_words : (r : Refusal) → lowest rules ≡ Some r → Lowest Applies (number r) (values r)
   to_words r e =
       let w = (lowest_exactly rules rise r).0 e in
       record {
@@ -64,7 +64,7 @@ module _ (rules : List Rule) (rise : rising rules ≡ true) (Applies : ℕ → L
           let q : t.refusal ≡ r = cc in
           sym t.values_are ∙ ap values q
 
-  to_rules : (n : ℕ) (l : List ℕ) → Lowest Applies n l → RefusedWith n l some (lowest rules)
+  to_rules : (n : ℕ) (l : List ℕ) → Lowest Applies n l → RefusedWith n l Some (lowest rules)
   to_rules n l w =
       let t = m.applies n l w.applies in (
         t.refusal,

@@ -1,10 +1,11 @@
 -- Slip 4: plans with the same empty blocks and equal remainders get the same answers. Every answer is told by refusals 1 to 6, the Tanner
 -- graph and the weights, and these are the same. Assumes nothing.
+use Rattle.std.specs.Prelude.{Result, Option, None, Some, Bool}
+use Rattle.refusal.specs.Answer.{ok_unless}
 use Prim.Native.Nat.{ℕ, zero, suc, ◌+◌, ◌*◌}
 use mathlib.Core.Path.{◌≡◌, refl, sym, ap, subst₂, ◌∙◌}
 use mathlib.Core.Bool.{true, false, not}
 use mathlib.Core.List.{List, [], ◌∷◌}
-use mathlib.Core.Option.{Option, none as nothing, some}
 use lib.Dec.{eqb}
 use lib.IntN.{ℤ, pos, negsuc}
 use lib.ListN.{set}
@@ -20,13 +21,12 @@ use Rattle.exponent.proofs.Remainders.{same_rules, same_block, same_graph, same_
 use Rattle.weights.specs.declared.Side.{Side}
 use Rattle.weights.specs.declared.Side.TheVariants.{Bits, Checks}
 use Rattle.weights.specs.Weights.{shape_of, weights_of, Held, held, right}
-use Rattle.weights.specs.Change.{change_rules, changed, stored, Call, call, refusal_of, after}
+use Rattle.weights.specs.Change.{change_rules, stored, Call, call, refusal_of, after}
 use Rattle.weights.proofs.Weights.{length_weights, weights_at, weights_by}
 use Rattle.weights.proofs.Changes.{taken, stays, was_accepted}
-use Rattle.girth.specs.declared.GirthTest.{GirthTest}
+use Rattle.girth.specs.declared.Cycle.{Cycle}
 use Rattle.girth.specs.Test.{Answer, refused, passed, failed, test_rules}
 use Rattle.walks.specs.Steps.{blocks_of}
-use Rattle.treetest.specs.declared.Verdict.{Verdict}
 use Rattle.treetest.specs.Answer as pairs
 use Rattle.treetest.specs.Answer.{pair_rules}
 use Rattle.syndrome.specs.Word.{word_rules}
@@ -40,7 +40,7 @@ use Rattle.promises.proofs.SameEncodes.{same_encoding, same_encoded}
 
 -- an answer of the girth test that one plan allows, the other does
 module _ (p q : List ℤ) (rows cols lift : ℕ) (rules : plan_rules p rows cols lift ≡ plan_rules q rows cols lift) (graph : tanner p rows cols lift ≡ tanner q rows cols lift) where
-  allowed : (target : ℕ) (r : GirthTest) → Answer p rows cols lift target r → Answer q rows cols lift target r
+  allowed : (target : ℕ) (r : Result (Option Cycle) Refusal) → Answer p rows cols lift target r → Answer q rows cols lift target r
   unfolding test_rules
   allowed target r (refused x h) = refused x (rw rules at h)
   allowed target r (passed h w) = passed (rw rules at h) (rw graph at w)
@@ -52,7 +52,7 @@ module _ (p q : List ℤ) (rows cols lift : ℕ) (rules : plan_rules p rows cols
     unfolding pair_rules test_rules
     same_pair_rules target places = rw (rules, blocks)
 
-    judged : (target places : ℕ) (v : Verdict) → pairs.Answer p rows cols lift target places v → pairs.Answer q rows cols lift target places v
+    judged : (target places : ℕ) (v : Result Bool Refusal) → pairs.Answer p rows cols lift target places v → pairs.Answer q rows cols lift target places v
     judged target places v (pairs.refused x h) = pairs.refused x (rw (same_pair_rules target places) at h)
     judged target places v (pairs.passed h w) = pairs.passed (rw (same_pair_rules target places) at h) (rw graph at w)
     judged target places v (pairs.not_passed h w) = pairs.not_passed (rw (same_pair_rules target places) at h) (rw graph at w)
@@ -105,15 +105,15 @@ module _ (lift : ℕ) where
         alike : (h g : Held) → after c (H p) ≡ h → after c (H q) ≡ g → h.rows ≡ g.rows → h.cols ≡ g.cols → SameRemainders lift h.plan g.plan → SameChange lift c (H p) (H q)
         alike h g a b m n t =
             record {
-              answer = ap changed same_refusal;
+              answer = ap ok_unless same_refusal;
               rows = ap (λ (x : Held). x.rows) a ∙ m ∙ sym (ap (λ (x : Held). x.rows) b);
               cols = ap (λ (x : Held). x.cols) a ∙ n ∙ sym (ap (λ (x : Held). x.cols) b);
               plan = subst₂ (SameRemainders lift) (sym (ap (λ (x : Held). x.plan) a)) (sym (ap (λ (x : Held). x.plan) b)) t;
             }
 
         by : (o : Option Refusal) → refusal_of c (H q) ≡ o → SameChange lift c (H p) (H q)
-        by (some r) e = alike (H p) (H q) (stays c (H p) r (same_refusal ∙ e)) (stays c (H q) r e) refl refl same
-        by nothing e =
+        by (Some r) e = alike (H p) (H q) (stays c (H p) r (same_refusal ∙ e)) (stays c (H q) r e) refl refl same
+        by None e =
             let t = stored_same entry (was_accepted c (H q) e).valid same (row * cols + col) in
             alike _ _ (taken c (H p) (same_refusal ∙ e)) (taken c (H q) e) (same_lists lift t rows cols Checks) (same_lists lift t rows cols Bits) t
 

@@ -1,6 +1,7 @@
 -- Slip 4 of the encoder: it looks at a plan by refusals 1 to 6 and by its blocks, so plans with the same remainders get the same answer and
 -- the same word. Assumes nothing.
 use Prim.Native.Nat.{ℕ, ◌+◌, ◌-◌, ◌*◌, ◌/◌, ◌%◌}
+use Rattle.refusal.specs.Answer.{ok_unless}
 use mathlib.Core.Path.{◌≡◌, ap}
 use mathlib.Core.Bool.{cond, not, ◌||◌}
 use mathlib.Core.List.{List, ◌++◌, map}
@@ -12,7 +13,7 @@ use Rattle.exponent.specs.Remainders.{SameRemainders}
 use Rattle.exponent.proofs.Remainders.{same_rules, same_block}
 use Rattle.bidiagonal.specs.Shape.{too_few, misplaced, some_misplaced, shifts_of, third, third_shift, not_bidiagonal}
 use Rattle.encoding.specs.Encoded.{bit_for, data_sum, last_bit, front_bit, data_bit, encoded_word}
-use Rattle.encoding.specs.Encode.{coding_rules, encode_rules, encode_refusal, encoding, after_encode}
+use Rattle.encoding.specs.Encode.{coding_rules, encode_rules, encode_refusal, after_encode}
 
 module _ (lift : ℕ) {p q : List ℤ} (same : SameRemainders lift p q) (rows cols : ℕ) where
   -- the shape
@@ -50,8 +51,8 @@ module _ (lift : ℕ) {p q : List ℤ} (same : SameRemainders lift p q) (rows co
   unfolding encode_rules coding_rules
   same_refusal info word = rw (same_rules lift same rows cols, same_shape)
 
-  pub same_encoding : (info word : List ℕ) → encoding (encode_refusal p rows cols lift info word) ≡ encoding (encode_refusal q rows cols lift info word)
-  same_encoding info word = ap encoding (same_refusal info word)
+  pub same_encoding : (info word : List ℕ) → ok_unless (encode_refusal p rows cols lift info word) ≡ ok_unless (encode_refusal q rows cols lift info word)
+  same_encoding info word = ap ok_unless (same_refusal info word)
 
   pub same_encoded : (info word : List ℕ) → after_encode p rows cols lift info word ≡ after_encode q rows cols lift info word
   same_encoded info word = rw (same_refusal info word, same_third, same_word)

@@ -1,5 +1,6 @@
 -- Slip 4 of a join: plans with the same remainders, joined with another plan, give the same answer and the same plan. Assumes nothing.
 use Prim.Native.Nat.{ℕ, ◌*◌}
+use Rattle.refusal.specs.Answer.{outcome}
 use mathlib.Core.Path.{◌≡◌, refl}
 use mathlib.Core.Bool.{not, ◌||◌, beq}
 use mathlib.Core.List.{List, map}
@@ -12,7 +13,7 @@ use Rattle.graph.specs.Erasure.{any}
 use Rattle.exponent.specs.Plan.{entry_at, filled}
 use Rattle.exponent.specs.Remainders.{SameRemainders}
 use Rattle.exponent.proofs.Remainders.{same_length, same_entry, same_rules_at}
-use Rattle.crt.specs.Join.{joined_entry, joined_plan, Sized, sized, both_refusal, differ, join_rules, join_refusal, joining}
+use Rattle.crt.specs.Join.{joined_entry, joined_plan, Sized, sized, both_refusal, differ, join_rules, join_refusal}
 use Rattle.promises.specs.Remainders.{SameJoin}
 
 -- the same refusal and the same plan make the same join
@@ -20,7 +21,7 @@ same_join : (a b c d : Sized) (place : List ℤ) → a.lift ≡ c.lift → b.lif
     → joined_plan a.plan a.lift b.plan b.lift ≡ joined_plan c.plan c.lift d.plan d.lift → SameJoin a b c d place
 same_join a b c d place p q e f =
     record {
-      answer = λ k. joining (e k) (p k * q k);
+      answer = λ k. outcome (e k) (p k * q k);
       joined = λ k. lent (e k) (f k) place;
     }
 

@@ -1,8 +1,11 @@
 -- The supplied triples and the plans built from them are what slip 6 says. Assumes nothing.
+use Rattle.std.specs.Prelude.{Ok}
+use Rattle.refusal.specs.Answer.{outcome}
+use Rattle.exponent.specs.declared.Shape.{Shape}
 use Prim.Native.Nat.{ℕ}
-use mathlib.Core.Path.{◌≡◌, refl, subst₂}
+use mathlib.Core.Path.{subst, ◌≡◌, refl}
 use mathlib.Core.List.{List}
-use mathlib.Core.Option.{Option, none, some}
+use Rattle.std.specs.Prelude.{Option, None, Some}
 use native.Mathlib.Omega.{arith}
 use lib.IntN.{ℤ}
 use Rattle.refusal.specs.declared.Refusal.{Refusal}
@@ -10,12 +13,11 @@ use Rattle.refusal.specs.Lowest.{lowest}
 use Rattle.graph.specs.Count.{member}
 use Rattle.girth.specs.Test.{allowed}
 use Rattle.girth.proofs.Rules.{not_refused as test_accepted}
-use Rattle.table.specs.declared.Built.TheVariants.{Built}
 use Rattle.refusal.specs.Lent.{lent}
 use Rattle.weights.specs.declared.Room.{Room}
-use Rattle.weights.specs.Weights.{shape_of, with_weights, room_of}
+use Rattle.weights.specs.Weights.{with_weights, room_of}
 use Rattle.steiner.specs.System as system
-use Rattle.steiner.specs.Build.{build_rules, build_refusal, steiner_plan, built}
+use Rattle.steiner.specs.Build.{build_rules, build_refusal, built_shape, steiner_plan}
 use Rattle.steiner.proofs.Listed.{the_list}
 use Rattle.steiner.proofs.Pairs.{pairs_once}
 use Rattle.steiner.proofs.Plans.{built_plan_law}
@@ -24,7 +26,7 @@ use Rattle.promises.specs.Steiner.{SteinerPlan, SteinerPlans, SteinerTriples}
 use Rattle.promises.proofs.Two.{verdict}
 use Rattle.promises.proofs.Three.{recovered}
 
-pub steiner_plan_law : (order lift : ℕ) (voltages : List ℤ) (room : Room) → lowest (build_rules order lift voltages room) ≡ none
+pub steiner_plan_law : (order lift : ℕ) (voltages : List ℤ) (room : Room) → lowest (build_rules order lift voltages room) ≡ None
     → SteinerPlan order lift voltages (steiner_plan order lift voltages) order (system.cols order)
 unfolding allowed member
 steiner_plan_law order lift voltages room e =
@@ -38,15 +40,14 @@ steiner_plan_law order lift voltages room e =
     }
 
 steiner_plans : SteinerPlans
-steiner_plans order lift voltages h rows cols = go (build_refusal order lift voltages h) refl
+steiner_plans order lift voltages h s = go (build_refusal order lift voltages h) refl
   where
-    go : (o : Option Refusal) → build_refusal order lift voltages h ≡ o → built o order ≡ Built rows cols
-        → SteinerPlan order lift voltages (lent o (with_weights (steiner_plan order lift voltages) (shape_of order (system.cols order) lift)) h).plan rows cols
-    go none q e =
-        let r : order ≡ rows = cc in
-        let c : system.cols order ≡ cols = cc in
-        subst₂ (SteinerPlan order lift voltages (steiner_plan order lift voltages)) r c (steiner_plan_law order lift voltages (room_of h) q)
-    go (some x) q e = absurd (let z : ◌≡◌ {A = ℕ} 0 1 = cc in omega arith)
+    go : (o : Option Refusal) → build_refusal order lift voltages h ≡ o → outcome o (built_shape order lift) ≡ Ok s
+        → SteinerPlan order lift voltages (lent o (with_weights (steiner_plan order lift voltages) (built_shape order lift)) h).plan s.rows s.cols
+    go None q e =
+        let same : built_shape order lift ≡ s = cc in
+        subst (λ (s : Shape). SteinerPlan order lift voltages (steiner_plan order lift voltages) s.rows s.cols) same (steiner_plan_law order lift voltages (room_of h) q)
+    go (Some x) q e = absurd (let z : ◌≡◌ {A = ℕ} 0 1 = cc in omega arith)
 
 pub steiner_triples : SteinerTriples
 steiner_triples = record { the_list = the_list; pairs = pairs_once; plans = steiner_plans }

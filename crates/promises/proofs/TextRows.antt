@@ -3,7 +3,7 @@ use Prim.Native.Nat.{ℕ}
 use mathlib.Core.Path.{◌≡◌, refl, sym, ap, subst}
 use mathlib.Core.Bool.{true}
 use mathlib.Core.List.{List, [], ◌∷◌}
-use mathlib.Core.Option.{Option, none, some}
+use Rattle.std.specs.Prelude.{Option, None, Some}
 use native.Mathlib.Omega.{arith}
 use borrow.Author.Tests.{ltb-true, lt-ltb}
 use lib.IntN.{ℤ}
@@ -37,11 +37,11 @@ room_matches text place = one_rule (TextPlace (length text)) _ (RoomRow text pla
 
 -- THE PLACE at which a text departs from a form
 module _ (form : Form) (text : List ℕ) (G : Bipartite) (place : ℕ) where
-  pub departs_at : DepartsAt form text G place → departs_in form text G ≡ some place
+  pub departs_at : DepartsAt form text G place → departs_in form text G ≡ Some place
   unfolding departs_in
   departs_at h = found_wrong text form (items_of form (lines_in form G)) 0 place h (omega arith)
 
-  pub at_departs : departs_in form text G ≡ some place → DepartsAt form text G place
+  pub at_departs : departs_in form text G ≡ Some place → DepartsAt form text G place
   unfolding departs_in
   at_departs e = wrong_found text form (items_of form (lines_in form G)) 0 place (omega arith) e
 
@@ -49,9 +49,9 @@ module _ (form : Form) (text : List ℕ) (G : Bipartite) (place : ℕ) where
 token_matches : (text : List ℕ) (G : Bipartite) → Matches (token_rules (departs text G)) (TokenRow text G)
 token_matches text G = one_rule (Token (place_of (departs text G))) _ (TokenRow text G) told row
   where
-    is_some_law : (o : Option ℕ) → is_some o ≡ true → o ≡ some (place_of o)
-    is_some_law none e = both_ways e refl
-    is_some_law (some place) e = refl
+    is_some_law : (o : Option ℕ) → is_some o ≡ true → o ≡ Some (place_of o)
+    is_some_law None e = both_ways e refl
+    is_some_law (Some place) e = refl
 
     told : is_some (departs text G) ≡ true → TokenRow text G 21 (place_of (departs text G) ∷ [])
     told e =

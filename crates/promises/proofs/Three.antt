@@ -1,6 +1,8 @@
 -- Promise 3 holds: the test's answer says that the plan is valid and its graph has no short cycle, a column's three blocks give each bit
 -- three checks; then graph's `few_recovered` applies to the filled word. Assumes nothing.
+use Rattle.std.specs.Prelude.{Ok}
 use Prim.Native.Nat.{ℕ, suc, ◌*◌, ◌≤◌, ◌<◌}
+use Rattle.refusal.specs.Answer.{ok_unless}
 use mathlib.Core.Path.{◌≡◌, sym, ap, ap₂, ◌∙◌}
 use mathlib.Core.List.{List}
 use native.Mathlib.Omega.{arith}
@@ -13,13 +15,12 @@ use Rattle.graph.specs.Stopping.{Least, girth_6, girth_8, girth_10, girth_12, gi
 use Rattle.graph.specs.Erasure.{erased, Codeword}
 use Rattle.graph.proofs.Decide.{by_bool, by_le}
 use Rattle.graph.proofs.Recovery.{few_recovered}
-use Rattle.exponent.specs.Limits.{plan_rules, validity, WellFormed}
+use Rattle.exponent.specs.Limits.{plan_rules, WellFormed}
 use Rattle.exponent.specs.Tanner.{tanner, ThreeBlocks}
 use Rattle.exponent.proofs.Rules.{accepted, valid_none}
 use Rattle.exponent.proofs.Tanner.{three_checks}
 use Rattle.girth.proofs.Rules.{formed}
 use Rattle.syndrome.proofs.Rules.{word_accepted, even_exactly}
-use Rattle.peeling.specs.declared.Filling.TheVariants.{Filled}
 use Rattle.peeling.proofs.Rules.{not_refused}
 use Rattle.promises.specs.Three.{Bound, at_6, at_8, at_10, at_12, at_14, at_16, at_18, Loses, Recovered, Promise3, CodeFrames}
 use Rattle.promises.proofs.Two.{verdict}
@@ -55,7 +56,7 @@ module _ (plan : List ℤ) (rows cols lift target bound : ℕ) (at : Bound targe
       let back = few_recovered (tanner plan rows cols lift) (least at) no-cycle (three_checks plan rows cols lift well.some_lift three) f f'
       (record { codeword = code; same_length = loses.same_length; kept = loses.kept }) (omega (arith, loses.few)) in
       let filled = not_refused plan rows cols lift f' valid back.0 in
-      record { answer = filled.0 ∙ ap₂ Filled back.2 back.3; word = filled.1 ∙ back.1 }
+      record { answer = filled.0 ∙ ap₂ (λ (m n : ℕ). Ok (record { filled = m; left = n })) back.2 back.3; word = filled.1 ∙ back.1 }
 
 pub promise_3 : Promise3
 promise_3 plan rows cols lift target bound at r answer pass three f g f' g' code-f code-g loses-f loses-g =
@@ -68,6 +69,6 @@ promise_3 plan rows cols lift target bound at r answer pass three f g f' g' code
 pub code_frames : CodeFrames
 code_frames plan rows cols lift f =
     let even = even_exactly plan rows cols lift f in (
-      λ e. let (well, code) = even.0 e in (ap validity ((accepted plan rows cols lift).1 well), code),
+      λ e. let (well, code) = even.0 e in (ap ok_unless ((accepted plan rows cols lift).1 well), code),
       λ h. even.1 ((accepted plan rows cols lift).0 (valid_none (lowest (plan_rules plan rows cols lift)) h.0), h.1),
     )

@@ -4,7 +4,7 @@ use mathlib.Core.Path.{◌≡◌, refl, sym, ap, subst, ◌∙◌}
 use mathlib.Core.Logic.{◌↔◌}
 use mathlib.Core.Bool.{true, false}
 use mathlib.Core.List.{List, [], ◌∷◌, ◌++◌}
-use mathlib.Core.Option.{some}
+use Rattle.std.specs.Prelude.{Some}
 use native.Mathlib.Omega.{arith}
 use borrow.Author.Tests.{lt-ltb, le-ltb, eqb-true, eq-eqb, ne_eqb}
 use lib.Dec.{eqb}
@@ -142,7 +142,7 @@ module _ (text : List ℕ) where
     none_right at line_end e = rw e (ne_eqb (get_or text (length text) 0) 10 (λ q. omega (arith, sym (get_or-eq_default text 0 {n = length text} (omega arith)) ∙ q)))
 
     -- THE COMPARER finds the first wrong token, or none
-    pub found_wrong : (items : List Item) (at place : ℕ) → FirstWrong form text at items place → at ≤ length text → mismatch form text at items ≡ some place
+    pub found_wrong : (items : List Item) (at place : ℕ) → FirstWrong form text at items place → at ≤ length text → mismatch form text at items ≡ Some place
     unfolding mismatch
     found_wrong l a p (wrong at first end x xs t differ) h = rw (right_not at first end t x differ, starts at first end t)
     found_wrong l a p (extra at first end t) h = rw (starts at first end t, lt-ltb first (length text) (inner at first end t))
@@ -174,7 +174,7 @@ module _ (text : List ℕ) where
           (λ t. (stop Unpadded text at, run_at Unpadded at h l (no_feed Unpadded _ (λ q. both_ways (eq-eqb _ _ q) t) ∙ e)))
 
   module _ (form : Form) where
-    pub wrong_found : (items : List Item) (at place : ℕ) → at ≤ length text → mismatch form text at items ≡ some place → FirstWrong form text at items place
+    pub wrong_found : (items : List Item) (at place : ℕ) → at ≤ length text → mismatch form text at items ≡ Some place → FirstWrong form text at items place
     unfolding mismatch
     wrong_found [] at place h e =
         by_le (length text) (start form text at)

@@ -1,38 +1,38 @@
 -- The starred cases of document 01's "Bench cases", in its order: what the calls answer, as one table.
+use Rattle.std.specs.Prelude.{Result, Ok, Err, Option, Some}
+use Rattle.refusal.specs.Answer.{outcome}
+use Rattle.exponent.specs.Plan.{shape_of}
+use Rattle.refusal.specs.declared.Refusal.{Refusal}
+use Rattle.exponent.specs.declared.Shape.{Shape}
 use Rattle.std.specs.Prelude.{ℕ, ◌*◌, ◌≤◌, ◌≡◌, List, [], ◌∷◌, ℤ, get_or, take, replicate}
-use Rattle.std.proofs.Math.Option.{none}
+use Rattle.std.specs.Prelude.{None}
 use Rattle.refusal.specs.Lowest.{lowest}
 use Rattle.exponent.specs.declared.block.Block.TheVariants.{Shift}
 use Rattle.exponent.specs.Plan.{shifts, block_at}
 use Rattle.exponent.specs.Limits.{plan_rules}
 use Rattle.exponent.specs.Tanner.{tanner}
-use Rattle.girth.specs.declared.GirthTest.{GirthTest}
-use Rattle.girth.specs.declared.Outcome.TheVariants.{Failed, Refused as NotTested}
+use Rattle.girth.specs.declared.Cycle.{Cycle}
 use Rattle.girth.specs.Test.{Answer}
-use Rattle.syndrome.specs.declared.Syndrome.TheVariants.{Odd}
 use Rattle.syndrome.specs.Check.{syndrome_of}
-use Rattle.peeling.specs.declared.Filling.TheVariants.{Filled, Refused as NotFilled}
 use Rattle.peeling.specs.Fill.{fill_answer, fill_word}
 use Rattle.square.specs.declared.supply.Family.TheVariants.{Cyclic}
 use Rattle.square.specs.Table.{supplied_table}
-use Rattle.square.specs.Mask.{mask_at, weight}
+use Rattle.square.specs.Mask.{mask_at}
 use Rattle.grid.specs.declared.Column.{Column}
 use Rattle.grid.specs.Plan.{columns}
-use Rattle.table.specs.declared.Built.{Built as BuiltAnswer}
-use Rattle.table.specs.declared.Built.TheVariants.{Built, Refused as NotBuilt}
-use Rattle.table.specs.Build.{build_rules, built_plan, built}
+use Rattle.table.specs.Build.{build_rules, built_plan, built_shape}
 use Rattle.tokens.specs.Bytes.{bytes}
 use Rattle.alist.specs.Calls.{alist_text}
 use Rattle.planning.specs.Output.{output}
 use Rattle.promises.specs.TurnedAway.{RefusedWith}
-use Rattle.promises.specs.Two.{Passing}
+use Rattle.promises.specs.Two.{Passing, Fails}
 
 -- every answer of the girth test is that the plan fails; that it fails and the shown cycle has so many edges
 abbrev pub Failing : List ℤ → ℕ → ℕ → ℕ → ℕ → Type 0
-Failing plan rows cols lift target = (r : GirthTest) → Answer plan rows cols lift target r → r.outcome ≡ Failed
+Failing plan rows cols lift target = (r : Result (Option Cycle) Refusal) → Answer plan rows cols lift target r → Fails r
 
 abbrev pub FailingWith : ℕ → List ℤ → ℕ → ℕ → ℕ → ℕ → Type 0
-FailingWith edges plan rows cols lift target = (r : GirthTest) → Answer plan rows cols lift target r → (r.outcome ≡ Failed) × (2 * r.n ≡ edges)
+FailingWith edges plan rows cols lift target = (r : Result (Option Cycle) Refusal) → Answer plan rows cols lift target r → (c : Cycle) × (r ≡ Ok (Some c)) × (2 * c.n ≡ edges)
 
 -- the one-row plan 0 1
 abbrev pub pair : List ℤ
@@ -42,8 +42,8 @@ pair = shifts (0 ∷ 1 ∷ [])
 abbrev pub full : List ℕ
 full = replicate 16 1
 
-abbrev pub cyclic_answer : ℕ → BuiltAnswer
-cyclic_answer lift = built (lowest (build_rules 4 lift (supplied_table Cyclic 4) full (record { plan = 48 * 64; rows = 48; cols = 64 }))) 4 (weight 4 full)
+abbrev pub cyclic_answer : ℕ → Result Shape Refusal
+cyclic_answer lift = outcome (lowest (build_rules 4 lift (supplied_table Cyclic 4) full (record { plan = 48 * 64; rows = 48; cols = 64 }))) (built_shape 4 lift full)
 
 abbrev pub cyclic_plan : ℕ → List ℤ
 cyclic_plan lift = built_plan 4 lift (supplied_table Cyclic 4) full
@@ -64,15 +64,15 @@ pub record BenchCases : Type 0 where
   -- 0 0 0 0 / 0 0 1 1 / 0 1 0 1, P = 2 (002, example 1): fails 6
   pub example_1_fails_6 : Failing (shifts (0 ∷ 0 ∷ 0 ∷ 0 ∷ 0 ∷ 0 ∷ 1 ∷ 1 ∷ 0 ∷ 1 ∷ 0 ∷ 1 ∷ [])) 3 4 2 6
   -- any one-row plan passes 12; P = 4,096 is taken, 4,097 is 3
-  pub one_row_passes_12 : (plan : List ℤ) (cols lift : ℕ) → lowest (plan_rules plan 1 cols lift) ≡ none → Passing plan 1 cols lift 12
+  pub one_row_passes_12 : (plan : List ℤ) (cols lift : ℕ) → lowest (plan_rules plan 1 cols lift) ≡ None → Passing plan 1 cols lift 12
   pub lift_4096_taken : Passing (shifts (0 ∷ 0 ∷ 0 ∷ [])) 1 3 4096 12
-  pub lift_4097_refused : (plan : List ℤ) (cols : ℕ) → 1 ≤ cols → cols ≤ 512 → (r : GirthTest) → Answer plan 1 cols 4097 12 r → RefusedWith 3 [] NotTested r.outcome
+  pub lift_4097_refused : (plan : List ℤ) (cols : ℕ) → 1 ≤ cols → cols ≤ 512 → (r : Result (Option Cycle) Refusal) → Answer plan 1 cols 4097 12 r → RefusedWith 3 [] Err r
   -- cyclic J = 4, P = 6: refusal 10 with 0, 2, 1, 3; input "4 6" prints "refused 10", whatever room and text place are
   -- lent (of a place below 11 bytes, as far as it goes)
-  pub cyclic_6_refused : RefusedWith 10 (0 ∷ 2 ∷ 1 ∷ 3 ∷ []) NotBuilt (cyclic_answer 6)
+  pub cyclic_6_refused : RefusedWith 10 (0 ∷ 2 ∷ 1 ∷ 3 ∷ []) Err (cyclic_answer 6)
   pub input_4_6 : (room : ℕ) (place : List ℕ) → output (bytes "4 6") room place ≡ bytes "refused 10\n"
   -- P = 7: built, 448 bits, text begins "448 336"
-  pub cyclic_7_built : cyclic_answer 7 ≡ Built 48 64
+  pub cyclic_7_built : cyclic_answer 7 ≡ Ok (shape_of 48 64 7)
   pub cyclic_7_bits : (tanner (cyclic_plan 7) 48 64 7).bits ≡ 448
   pub cyclic_7_text : take 8 (alist_text (cyclic_plan 7) 48 64 7) ≡ bytes "448 336\n"
   -- in it column (1,1,3), number 23, has 1 in row 5, 0 in row 23, 3 in row 39
@@ -81,12 +81,12 @@ pub record BenchCases : Type 0 where
   pub row_23 : block_at (cyclic_plan 7) 64 7 23 23 ≡ Shift 0
   pub row_39 : block_at (cyclic_plan 7) 64 7 39 23 ≡ Shift 3
   -- plan 0 1 (one row), P = 2: 1 0 0 2 becomes 1 0 0 1, filled 1; 2 0 0 2: filled 0, left 2; 1 2 2 0: 20; 1 0 1 1: check 1 odd
-  pub one_lost_answer : fill_answer pair 1 2 2 (1 ∷ 0 ∷ 0 ∷ 2 ∷ []) ≡ Filled 1 0
+  pub one_lost_answer : fill_answer pair 1 2 2 (1 ∷ 0 ∷ 0 ∷ 2 ∷ []) ≡ Ok (record { filled = 1; left = 0 })
   pub one_lost_word : fill_word pair 1 2 2 (1 ∷ 0 ∷ 0 ∷ 2 ∷ []) ≡ 1 ∷ 0 ∷ 0 ∷ 1 ∷ []
-  pub two_lost_answer : fill_answer pair 1 2 2 (2 ∷ 0 ∷ 0 ∷ 2 ∷ []) ≡ Filled 0 2
+  pub two_lost_answer : fill_answer pair 1 2 2 (2 ∷ 0 ∷ 0 ∷ 2 ∷ []) ≡ Ok (record { filled = 0; left = 2 })
   pub two_lost_word : fill_word pair 1 2 2 (2 ∷ 0 ∷ 0 ∷ 2 ∷ []) ≡ 2 ∷ 0 ∷ 0 ∷ 2 ∷ []
-  pub none_fit_answer : RefusedWith 20 [] NotFilled (fill_answer pair 1 2 2 (1 ∷ 2 ∷ 2 ∷ 0 ∷ []))
+  pub none_fit_answer : RefusedWith 20 [] Err (fill_answer pair 1 2 2 (1 ∷ 2 ∷ 2 ∷ 0 ∷ []))
   pub none_fit_word : fill_word pair 1 2 2 (1 ∷ 2 ∷ 2 ∷ 0 ∷ []) ≡ 1 ∷ 2 ∷ 2 ∷ 0 ∷ []
-  pub check_1_odd : syndrome_of pair 1 2 2 (1 ∷ 0 ∷ 1 ∷ 1 ∷ []) ≡ Odd 1
+  pub check_1_odd : syndrome_of pair 1 2 2 (1 ∷ 0 ∷ 1 ∷ 1 ∷ []) ≡ Ok (Some 1)
   -- its alist
   pub text : alist_text pair 1 2 2 ≡ bytes "4 2\n1 2\n1 1 1 1\n2 2\n1\n2\n2\n1\n1 4\n2 3\n"

@@ -1,15 +1,15 @@
 -- Document 02, slip 11: lost and wrong bits together, over the definitions that the calls answer by.
+use Rattle.std.specs.Prelude.{Result, Some, Option}
+use Rattle.refusal.specs.declared.Refusal.{Refusal}
+use Rattle.std.specs.Prelude.{None, Ok, Err}
 use Rattle.std.specs.Prelude.{ℕ, ◌+◌, ◌-◌, ◌*◌, ◌≤◌, ◌<◌, ◌≡◌, List, [], ℤ, pos, length, get_or, replicate}
 use Rattle.graph.specs.Erasure.{Codeword}
 use Rattle.graph.specs.Filling.{erasures}
 use Rattle.graph.specs.Errors.{errors}
 use Rattle.exponent.specs.Tanner.{tanner, ThreeBlocks}
-use Rattle.girth.specs.declared.GirthTest.{GirthTest}
-use Rattle.girth.specs.declared.Outcome.TheVariants.{Passed}
+use Rattle.girth.specs.declared.Cycle.{Cycle}
 use Rattle.girth.specs.Test.{Answer}
-use Rattle.syndrome.specs.declared.Syndrome.TheVariants.{Even, Odd}
 use Rattle.syndrome.specs.Check.{syndrome_of}
-use Rattle.peeling.specs.declared.Filling.TheVariants.{Refused}
 use Rattle.peeling.specs.Fill.{fill_answer}
 use Rattle.steiner.specs.Build.{steiner_plan}
 use Rattle.promises.specs.TurnedAway.{RefusedWith}
@@ -30,16 +30,16 @@ pub record Told (plan : List ℤ) (rows cols lift t : ℕ) : Type 0 where
       → Codeword (tanner plan rows cols lift) u → Codeword (tanner plan rows cols lift) v → Read u r e f → Read v r e f → u ≡ v
   -- a frame with no lost bits and between 1 and t − 1 wrong ones is never even: the frame check answers with an odd check
   pub never_even : (v r : List ℕ) → Codeword (tanner plan rows cols lift) v → Read v r 0 (t - 1) → 1 ≤ errors v r
-      → (c : ℕ) × (syndrome_of plan rows cols lift r ≡ Odd c)
+      → (c : ℕ) × (syndrome_of plan rows cols lift r ≡ Ok (Some c))
   -- nor is one with lost bits ever filled, where lost and wrong bits together are below t and some are wrong: the filler answers 20
   pub never_filled : (v r : List ℕ) (e f : ℕ) → e + f < t → Codeword (tanner plan rows cols lift) v → Read v r e f → 1 ≤ errors v r
-      → RefusedWith 20 [] Refused (fill_answer plan rows cols lift r)
+      → RefusedWith 20 [] Err (fill_answer plan rows cols lift r)
 
 -- THE THEOREM: for every plan that the girth test passes at the target and that has three filled blocks in each column, all this by T
 abbrev pub WrongBits : Type 0
 WrongBits =
     (plan : List ℤ) (rows cols lift target bound : ℕ) → Bound target bound
-    → (r : GirthTest) → Answer plan rows cols lift target r → r.outcome ≡ Passed
+    → (r : Result (Option Cycle) Refusal) → Answer plan rows cols lift target r → r ≡ Ok None
     → ThreeBlocks plan rows cols lift
     → Told plan rows cols lift (T bound)
 
@@ -50,8 +50,8 @@ pub record Reached (plan : List ℤ) (rows cols lift target t : ℕ) : Type 0 wh
   pub three : ThreeBlocks plan rows cols lift
   pub u : List ℕ
   pub v : List ℕ
-  pub even_u : syndrome_of plan rows cols lift u ≡ Even
-  pub even_v : syndrome_of plan rows cols lift v ≡ Even
+  pub even_u : syndrome_of plan rows cols lift u ≡ Ok None
+  pub even_v : syndrome_of plan rows cols lift v ≡ Ok None
   pub apart : errors u v ≡ t
   pub two_fit : (e f : ℕ) → e + 2 * f ≡ t → (r : List ℕ) × Read u r e f × Read v r e f
   pub other_given : (r : List ℕ) × Read u r (t - 1) 1 × Recovered plan rows cols lift v r

@@ -1,15 +1,17 @@
 -- Document 02, slip 9: two plans made one, over the definitions that the call answers by.
+use Rattle.std.specs.Prelude.{Result, None, Option}
+use Rattle.refusal.specs.declared.Refusal.{Refusal}
+use Rattle.std.specs.Prelude.{Ok}
+use Rattle.refusal.specs.Answer.{outcome}
 use Rattle.std.specs.Prelude.{ℕ, ◌*◌, ◌%◌, ◌<◌, ◌≡◌, ◌⊎◌, List, ℤ, pos, negsuc, length, get_or}
 use Rattle.graph.specs.Girth.{Passes}
 use Rattle.exponent.specs.Limits.{WellFormed}
 use Rattle.exponent.specs.Tanner.{tanner}
 use Rattle.weights.specs.declared.Side.{Side}
 use Rattle.weights.specs.Weights.{shape_of, weights_of}
-use Rattle.girth.specs.declared.GirthTest.{GirthTest}
-use Rattle.girth.specs.declared.Outcome.TheVariants.{Passed}
+use Rattle.girth.specs.declared.Cycle.{Cycle}
 use Rattle.girth.specs.Test.{Answer}
-use Rattle.crt.specs.declared.Joining.TheVariants.{Joined}
-use Rattle.crt.specs.Join.{Sized, join_refusal, after_join, joining}
+use Rattle.crt.specs.Join.{Sized, join_refusal, after_join}
 use Rattle.promises.specs.Two.{Passing}
 
 -- What stands at a place of the first plan, of the second and of the joined one: −1 in all three; or voltages e and f, and the only number
@@ -21,9 +23,9 @@ pub data JoinedAt (P Q : ℕ) : ℤ → ℤ → ℤ → Type 0 where
 
 -- the girth test answers that the plan passes
 pub record TestPassed (a : Sized) (target : ℕ) : Type 0 where
-  pub test : GirthTest
+  pub test : Result (Option Cycle) Refusal
   pub answer : Answer a.plan a.rows a.cols a.lift target test
-  pub passed : test.outcome ≡ Passed
+  pub passed : test ≡ Ok None
 
 pub record Joins (a b : Sized) (plan : List ℤ) : Type 0 where
   -- place by place; and the plan may be used, with the first plan's rows and columns
@@ -39,5 +41,5 @@ pub record Joins (a b : Sized) (plan : List ℤ) : Type 0 where
 -- wherever the call answers that it joined, of what its lent place then holds: the lift is P × Q
 abbrev pub JoinedPlans : Type 0
 JoinedPlans =
-    (a b : Sized) (place : List ℤ) (lift : ℕ) → joining (join_refusal a b (length place)) (a.lift * b.lift) ≡ Joined lift
+    (a b : Sized) (place : List ℤ) (lift : ℕ) → outcome (join_refusal a b (length place)) (a.lift * b.lift) ≡ Ok lift
     → (lift ≡ a.lift * b.lift) × Joins a b (after_join a b place)

@@ -1,12 +1,13 @@
 -- Document 02, slip 6: Steiner triple plans. The supplied list, and every plan that the builder builds.
-use Rattle.std.specs.Prelude.{ℕ, ◌≡◌, List, ℤ}
+use Rattle.std.specs.Prelude.{ℕ, ◌≡◌, List, ℤ, Ok}
+use Rattle.refusal.specs.Answer.{outcome}
+use Rattle.exponent.specs.declared.Shape.{Shape}
 use Rattle.graph.specs.Erasure.{Codeword}
 use Rattle.exponent.specs.Tanner.{tanner}
-use Rattle.table.specs.declared.Built.TheVariants.{Built}
 use Rattle.weights.specs.Weights.{Held}
 use Rattle.steiner.specs.System as system
 use Rattle.steiner.specs.Listed.{Listed, PairsOnce}
-use Rattle.steiner.specs.Build.{build_refusal, after_build, built}
+use Rattle.steiner.specs.Build.{build_refusal, after_build, built_shape}
 use Rattle.steiner.specs.Plans.{TriplePlan}
 use Rattle.promises.specs.Two.{Passing}
 use Rattle.promises.specs.Three.{Loses, Recovered}
@@ -22,9 +23,9 @@ pub record SteinerPlan (order lift : ℕ) (voltages plan : List ℤ) (rows cols 
 -- wherever the builder answers that it built, of what its lent place then holds
 abbrev pub SteinerPlans : Type 0
 SteinerPlans =
-    (order lift : ℕ) (voltages : List ℤ) (h : Held) (rows cols : ℕ)
-    → built (build_refusal order lift voltages h) order ≡ Built rows cols
-    → SteinerPlan order lift voltages (after_build order lift voltages h).plan rows cols
+    (order lift : ℕ) (voltages : List ℤ) (h : Held) (s : Shape)
+    → outcome (build_refusal order lift voltages h) (built_shape order lift) ≡ Ok s
+    → SteinerPlan order lift voltages (after_build order lift voltages h).plan s.rows s.cols
 
 -- which triples the list has, that they cover each pair of points once, and what is built from them
 pub record SteinerTriples : Type 0 where

@@ -1,6 +1,6 @@
 -- Demand 2's gift to demand 3: every built table plan passes at 12, so 13 lost bits always come back.
 use Rattle.std.specs.Prelude.{ℕ, ◌≡◌, List, ℤ}
-use Rattle.std.proofs.Math.Option.{none}
+use Rattle.std.specs.Prelude.{None}
 use Rattle.refusal.specs.Lowest.{lowest}
 use Rattle.graph.specs.Erasure.{Codeword}
 use Rattle.exponent.specs.Tanner.{tanner}
@@ -13,7 +13,7 @@ use Rattle.promises.specs.Three.{Loses, Recovered}
 -- a code frame of a built plan that loses up to 13 bits comes back
 abbrev pub Thirteen : Type 0
 Thirteen =
-    (order lift : ℕ) (table : List ℤ) (mask : List ℕ) (room : Room) → lowest (build_rules order lift table mask room) ≡ none
+    (order lift : ℕ) (table : List ℤ) (mask : List ℕ) (room : Room) → lowest (build_rules order lift table mask room) ≡ None
     → (let plan = built_plan order lift table mask in
     let rows = plan_rows order (weight order mask) in
     let cols = plan_cols order (weight order mask) in

@@ -1,17 +1,17 @@
 -- Promise 3 (demand 3 of the requirement): where the girth test passes and every column has three filled blocks, a few lost bits always come back.
+use Rattle.std.specs.Prelude.{Result, Option}
+use Rattle.refusal.specs.declared.Refusal.{Refusal}
+use Rattle.std.specs.Prelude.{None, Ok}
+use Rattle.refusal.specs.Answer.{ok_unless}
 use Rattle.std.specs.Prelude.{ℕ, suc, ◌≤◌, ◌≡◌, ◌↔◌, false, List, ℤ, length, get_or}
 use Rattle.refusal.specs.Lowest.{lowest}
 use Rattle.graph.specs.Erasure.{erased, Codeword}
 use Rattle.graph.specs.Filling.{erasures}
-use Rattle.exponent.specs.declared.Validity.TheVariants.{Valid}
-use Rattle.exponent.specs.Limits.{plan_rules, validity}
+use Rattle.exponent.specs.Limits.{plan_rules}
 use Rattle.exponent.specs.Tanner.{tanner, ThreeBlocks}
-use Rattle.girth.specs.declared.GirthTest.{GirthTest}
-use Rattle.girth.specs.declared.Outcome.TheVariants.{Passed}
+use Rattle.girth.specs.declared.Cycle.{Cycle}
 use Rattle.girth.specs.Test.{Answer}
-use Rattle.syndrome.specs.declared.Syndrome.TheVariants.{Even}
 use Rattle.syndrome.specs.Check.{syndrome_of}
-use Rattle.peeling.specs.declared.Filling.TheVariants.{Filled}
 use Rattle.peeling.specs.Fill.{fill_answer, fill_word}
 
 -- how many lost bits always come back at a target; from 14 on: document 02, slip 6
@@ -36,7 +36,7 @@ pub record Loses (f f' : List ℕ) (n : ℕ) : Type 0 where
 
 -- filling f' is not refused, fills all its erasures, leaves none, and gives f back byte for byte
 pub record Recovered (plan : List ℤ) (rows cols lift : ℕ) (f f' : List ℕ) : Type 0 where
-  pub answer : fill_answer plan rows cols lift f' ≡ Filled (erasures f') 0
+  pub answer : fill_answer plan rows cols lift f' ≡ Ok (record { filled = erasures f'; left = 0 })
   pub word : fill_word plan rows cols lift f' ≡ f
 
 -- For every plan that the girth test passes at the target and that has three filled blocks in each column, and all code frames f and g,
@@ -45,7 +45,7 @@ pub record Recovered (plan : List ℤ) (rows cols lift : ℕ) (f f' : List ℕ) 
 abbrev pub Promise3 : Type 0
 Promise3 =
     (plan : List ℤ) (rows cols lift target bound : ℕ) → Bound target bound
-    → (r : GirthTest) → Answer plan rows cols lift target r → r.outcome ≡ Passed
+    → (r : Result (Option Cycle) Refusal) → Answer plan rows cols lift target r → r ≡ Ok None
     → ThreeBlocks plan rows cols lift
     → (f g f' g' : List ℕ)
     → Codeword (tanner plan rows cols lift) f → Codeword (tanner plan rows cols lift) g
@@ -57,4 +57,4 @@ Promise3 =
 abbrev pub CodeFrames : Type 0
 CodeFrames =
     (plan : List ℤ) (rows cols lift : ℕ) (f : List ℕ)
-    → (syndrome_of plan rows cols lift f ≡ Even) ↔ ((validity (lowest (plan_rules plan rows cols lift)) ≡ Valid) × Codeword (tanner plan rows cols lift) f)
+    → (syndrome_of plan rows cols lift f ≡ Ok None) ↔ ((ok_unless (lowest (plan_rules plan rows cols lift)) ≡ Ok tt) × Codeword (tanner plan rows cols lift) f)

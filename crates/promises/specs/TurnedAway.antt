@@ -2,7 +2,7 @@
 -- values. Each row stands here once; the refusals of a call are its rows together (One.antt). Places count from 0.
 use Rattle.std.specs.Prelude.{ℕ, suc, ◌+◌, ◌-◌, ◌*◌, ◌/◌, ◌%◌, ◌≤◌, ◌<◌, max, ◌≡◌, ◌↔◌, ◌⊎◌, ◌≢◌, List, [], ◌∷◌, ℤ, pos, negsuc, length, get_or, take, drop}
 use Rattle.std.specs.Int.{◌∣◌}
-use Rattle.std.proofs.Math.Option.{Option, none, some}
+use Rattle.std.specs.Prelude.{Option, None, Some}
 use Rattle.refusal.specs.declared.Refusal.{Refusal}
 use Rattle.refusal.specs.Number.{number, values}
 use Rattle.refusal.specs.Place.{First}
@@ -254,5 +254,5 @@ RefusedWith n l refused answer = (x : Refusal) × (answer ≡ refused x) × (num
 
 -- the number n with the values l is given exactly where it is the lowest that applies, and no refusal exactly where nothing applies
 pub record LowestOf (Applies : ℕ → List ℕ → Type 0) (answer : Option Refusal) : Type 0 where
-  pub given : (n : ℕ) (l : List ℕ) → RefusedWith n l some answer ↔ Lowest Applies n l
-  pub only_then : (answer ≡ none) ↔ ((n : ℕ) (l : List ℕ) → Applies n l → ⊥)
+  pub given : (n : ℕ) (l : List ℕ) → RefusedWith n l Some answer ↔ Lowest Applies n l
+  pub only_then : (answer ≡ None) ↔ ((n : ℕ) (l : List ℕ) → Applies n l → ⊥)

@@ -1,6 +1,9 @@
 -- Promise 2 (demand 2 of the requirement), a record for each of its sentences, over the definitions that the calls answer by.
 use Rattle.std.specs.Prelude.{ℕ, ◌+◌, ◌*◌, ◌<◌, ◌≡◌, ◌↔◌, ◌≢◌, Bool, true, false, not, ◌&&◌, List, map, ℤ, length, get_or}
-use Rattle.std.proofs.Math.Option.{none}
+use Rattle.std.specs.Prelude.{Option, None, Some, Result, Ok}
+use Rattle.refusal.specs.declared.Refusal.{Refusal}
+use Rattle.refusal.specs.Answer.{outcome}
+use Rattle.exponent.specs.declared.Shape.{Shape}
 use Rattle.refusal.specs.Lowest.{lowest}
 use Rattle.graph.specs.Count.{below, count}
 use Rattle.graph.specs.Graph.{Bipartite}
@@ -8,17 +11,14 @@ use Rattle.graph.specs.Girth.{SimpleCycle, Passes, IsGirth}
 use Rattle.graph.specs.Erasure.{erased, Damaged, StoppingIn, Union, largest, Solution}
 use Rattle.graph.specs.Filling.{erasures}
 use Rattle.exponent.specs.Tanner.{tanner}
-use Rattle.girth.specs.declared.GirthTest.{GirthTest}
-use Rattle.girth.specs.declared.Outcome.TheVariants.{Passed, Failed}
+use Rattle.girth.specs.declared.Cycle.{Cycle}
 use Rattle.girth.specs.Test.{test_rules, Witness, Answer}
-use Rattle.peeling.specs.declared.Filling.TheVariants.{Filled}
 use Rattle.peeling.specs.Fill.{fill_answer, fill_word}
 use Rattle.square.specs.Table.{table_at}
 use Rattle.square.specs.Mask.{mask_at, weight}
 use Rattle.grid.specs.Source004.{kept_columns, kept_rows, target as target004, written}
-use Rattle.table.specs.declared.Built.TheVariants.{Built}
 use Rattle.weights.specs.Weights.{Held}
-use Rattle.table.specs.Build.{build_refusal, after_build, built}
+use Rattle.table.specs.Build.{build_refusal, after_build, built_shape}
 
 -- A PLAN PASSES at a target exactly when its expanded graph has no simple cycle with fewer edges than the target, and else such a
 -- cycle is shown, of exactly as many edges as the girth (document 02, slip 2).
@@ -31,25 +31,29 @@ pub record ShortCycle (G : Bipartite) (target : ℕ) : Type 0 where
   pub cycle : SimpleCycle G n checks bits
   pub short : 2 * n < target
 
--- what an answer of the girth test says, where `lowest … ≡ none` is that plan and target are not turned away
-pub record Verdict (plan : List ℤ) (rows cols lift target : ℕ) (r : GirthTest) : Type 0 where
-  pub passed : (r.outcome ≡ Passed) ↔ ((lowest (test_rules plan rows cols lift target) ≡ none) × Passes (tanner plan rows cols lift) target)
-  pub failed : (r.outcome ≡ Failed) ↔ ((lowest (test_rules plan rows cols lift target) ≡ none) × ShortCycle (tanner plan rows cols lift) target)
-  pub shown : lowest (test_rules plan rows cols lift target) ≡ none → r.outcome ≢ Passed → Witness (tanner plan rows cols lift) target r
-  pub girth : r.outcome ≡ Failed → IsGirth (tanner plan rows cols lift) (2 * r.n)
+-- it answers with a cycle
+abbrev pub Fails : Result (Option Cycle) Refusal → Type 0
+Fails r = (c : Cycle) × (r ≡ Ok (Some c))
+
+-- what an answer of the girth test says, where `lowest … ≡ None` is that plan and target are not turned away
+pub record Verdict (plan : List ℤ) (rows cols lift target : ℕ) (r : Result (Option Cycle) Refusal) : Type 0 where
+  pub passed : (r ≡ Ok None) ↔ ((lowest (test_rules plan rows cols lift target) ≡ None) × Passes (tanner plan rows cols lift) target)
+  pub failed : Fails r ↔ ((lowest (test_rules plan rows cols lift target) ≡ None) × ShortCycle (tanner plan rows cols lift) target)
+  pub shown : lowest (test_rules plan rows cols lift target) ≡ None → r ≢ Ok None → (c : Cycle) × (r ≡ Ok (Some c)) × Witness (tanner plan rows cols lift) target c
+  pub girth : (c : Cycle) → r ≡ Ok (Some c) → IsGirth (tanner plan rows cols lift) (2 * c.n)
 
 -- there is an answer, and every answer says so
 abbrev pub Verdicts : Type 0
 Verdicts =
     (plan : List ℤ) (rows cols lift target : ℕ)
-    → ((r : GirthTest) × Answer plan rows cols lift target r)
-    × ((r : GirthTest) → Answer plan rows cols lift target r → Verdict plan rows cols lift target r)
+    → ((r : Result (Option Cycle) Refusal) × Answer plan rows cols lift target r)
+    × ((r : Result (Option Cycle) Refusal) → Answer plan rows cols lift target r → Verdict plan rows cols lift target r)
 
 -- A BUILT PLAN is the one in source document 004, and always passes at 12.
 
 -- every answer of the girth test is that the plan passes
 abbrev pub Passing : List ℤ → ℕ → ℕ → ℕ → ℕ → Type 0
-Passing plan rows cols lift target = (r : GirthTest) → Answer plan rows cols lift target r → r.outcome ≡ Passed
+Passing plan rows cols lift target = (r : Result (Option Cycle) Refusal) → Answer plan rows cols lift target r → r ≡ Ok None
 
 -- 004's matrix, row by row, is written with −1 for ∞ and its entries modulo P; L is the mask's common weight
 pub record BuiltPlan (order lift : ℕ) (table : List ℤ) (mask : List ℕ) (plan : List ℤ) (rows cols : ℕ) : Type 0 where
@@ -62,9 +66,9 @@ pub record BuiltPlan (order lift : ℕ) (table : List ℤ) (mask : List ℕ) (pl
 -- wherever the builder answers that it built, of what its lent place then holds
 abbrev pub BuiltPlans : Type 0
 BuiltPlans =
-    (order lift : ℕ) (table : List ℤ) (mask : List ℕ) (h : Held) (rows cols : ℕ)
-    → built (build_refusal order lift table mask h) order (weight order mask) ≡ Built rows cols
-    → BuiltPlan order lift table mask (after_build order lift table mask h).plan rows cols
+    (order lift : ℕ) (table : List ℤ) (mask : List ℕ) (h : Held) (s : Shape)
+    → outcome (build_refusal order lift table mask h) (built_shape order lift mask) ≡ Ok s
+    → BuiltPlan order lift table mask (after_build order lift table mask h).plan s.rows s.cols
 
 -- THE FILLER recovers each lost bit outside the largest set of lost bits that no check touches just once, and no other.
 
@@ -101,7 +105,7 @@ pub record Recovers (G : Bipartite) (word after : List ℕ) (filled left : ℕ) 
 abbrev pub Recoveries : Type 0
 Recoveries =
     (plan : List ℤ) (rows cols lift : ℕ) (word : List ℕ) (filled left : ℕ)
-    → fill_answer plan rows cols lift word ≡ Filled filled left
+    → fill_answer plan rows cols lift word ≡ Ok (record { filled = filled; left = left })
     → Recovers (tanner plan rows cols lift) word (fill_word plan rows cols lift word) filled left
 
 -- the whole promise

@@ -2,41 +2,30 @@
 // Each function returns 0, or the number of a refusal (documents 01 and 02), and puts values into `out` (specs/Door.antt).
 #![tactic(auto)]
 
-ghost use Rattle.std.specs.Prelude.{◌≡◌, ℕ, ◌*◌, length};
+ghost use Rattle.std.specs.Prelude.{◌≡◌, ℕ, ◌*◌, ⊤, Bool, Option, length};
+ghost use Rattle.refusal.specs.Answer.{ok_unless, outcome};
 ghost use Rattle.refusal.specs.Lowest.{lowest};
 ghost use Rattle.graph.specs.Filling.{erasures};
-ghost use Rattle.exponent.specs.declared.Validity.{Validity};
-ghost use Rattle.exponent.specs.Limits.{plan_rules, validity};
-ghost use Rattle.girth.specs.declared.GirthTest.{GirthTest};
+ghost use Rattle.exponent.specs.Limits.{plan_rules};
+ghost use Rattle.exponent.specs.declared.Shape.{Shape};
+ghost use Rattle.girth.specs.declared.Cycle.{Cycle};
 ghost use Rattle.girth.specs.Test.{Answer};
-ghost use Rattle.treetest.specs.declared.Verdict.{Verdict};
 ghost use Rattle.treetest.specs.Answer as pairs;
-ghost use Rattle.syndrome.specs.declared.Syndrome.{Syndrome};
 ghost use Rattle.syndrome.specs.Check.{syndrome_of};
 ghost use Rattle.peeling.specs.declared.Filling.{Filling};
 ghost use Rattle.peeling.specs.Fill.{fill_answer, fill_word, Previews};
 ghost use Rattle.square.specs.declared.supply.Family.TheVariants.{Array, Cyclic};
 ghost use Rattle.square.specs.Table.{supplied_table};
-ghost use Rattle.square.specs.Mask.{weight};
-ghost use Rattle.table.specs.declared.Built.{Built};
-ghost use Rattle.table.specs.declared.Supplied.{Supplied};
 ghost use Rattle.refusal.specs.Lent.{lent};
-ghost use Rattle.weights.specs.declared.change.Changed.{Changed};
 ghost use Rattle.weights.specs.Weights.{held};
-ghost use Rattle.weights.specs.Change.{changed, call, refusal_of, after};
-ghost use Rattle.table.specs.Build.{supply_rules, supplied, build_refusal, after_build, built};
+ghost use Rattle.weights.specs.Change.{call, refusal_of, after};
+ghost use Rattle.table.specs.Build.{supply_rules, build_refusal, after_build, built_shape};
 ghost use Rattle.steiner.specs.Build as steiner;
-ghost use Rattle.crt.specs.declared.Joining.{Joining};
-ghost use Rattle.crt.specs.Join.{sized, join_refusal, joining, after_join};
-ghost use Rattle.encoding.specs.declared.Encoding.{Encoding};
-ghost use Rattle.encoding.specs.Encode.{encode_refusal, encoding, after_encode};
-ghost use Rattle.flipping.specs.declared.Flipping.{Flipping};
+ghost use Rattle.crt.specs.Join.{sized, join_refusal, after_join};
+ghost use Rattle.encoding.specs.Encode.{encode_refusal, after_encode};
 ghost use Rattle.flipping.specs.Flip.{flip_answer, flip_word};
-ghost use Rattle.alist.specs.declared.Written.{Written};
-ghost use Rattle.alist.specs.declared.Comparison.{Comparison};
-ghost use Rattle.alist.specs.Calls.{alist_text, write_rules, written, laid, compare_rules, comparison};
-ghost use Rattle.qcldpc.specs.declared.reply.Reply.TheVariants.{One};
-ghost use Rattle.qcldpc.specs.Door.{Replies, Leaves, KeptUnless0, gives, check_reply, girth_reply, verdict_reply, fill_reply, syndrome_reply, built_reply, supplied_reply, written_reply, compared_reply, changed_reply, joined_reply, encoded_reply, flipped_reply};
+ghost use Rattle.alist.specs.Calls.{alist_text, write_rules, laid, compare_rules};
+ghost use Rattle.qcldpc.specs.Door.{Replies, Leaves, KeptUnless0, nothing, one, sizes, counts, odd_check, verdict, witness};
 
 use square::supply::Family;
 use weights::change;
@@ -58,14 +47,15 @@ pub extern "C" fn qcldpc_check(
     lift: u64,
     out: &mut [u64],
 ) -> u64
-    ensures { Replies Validity (λ v. v ≡ validity (lowest (plan_rules plan.now rows cols lift))) (gives check_reply) out.old result out.new }
+    ensures { Replies ⊤ (λ v. v ≡ ok_unless (lowest (plan_rules plan.now rows cols lift))) nothing out.old result out.new }
 {
     if out.len() < PLACES {
         return NO_ROOM;
     }
-    let v = exponent::validate(plan, rows as usize, cols as usize, lift as usize);
-    let r = reply::checked(v);
-    reply::give(r, out)
+    reply::give(
+        exponent::validate(plan, rows as usize, cols as usize, lift as usize),
+        out,
+    )
 }
 
 // The girth test: out[0] is 0 where the plan passes, else n of a witness cycle, half the girth; its checks stand from out[1],
@@ -79,19 +69,21 @@ pub extern "C" fn qcldpc_girth(
     target: u64,
     out: &mut [u64],
 ) -> u64
-    ensures { Replies GirthTest (Answer plan.now rows cols lift target) girth_reply out.old result out.new }
+    ensures { Replies (Option Cycle) (Answer plan.now rows cols lift target) witness out.old result out.new }
 {
     if out.len() < PLACES {
         return NO_ROOM;
     }
-    let t = girth::test(
-        plan,
-        rows as usize,
-        cols as usize,
-        lift as usize,
-        target as usize,
-    );
-    reply::tested(t, out)
+    reply::give(
+        girth::test(
+            plan,
+            rows as usize,
+            cols as usize,
+            lift as usize,
+            target as usize,
+        ),
+        out,
+    )
 }
 
 // The girth test by sorted pairs, over a lent work list: out[0] is 0 where the plan passes, else 1.
@@ -105,22 +97,23 @@ pub extern "C" fn qcldpc_girth_pairs(
     work: &mut [u64],
     out: &mut [u64],
 ) -> u64
-    ensures answers { Replies Verdict (pairs.Answer plan.now rows cols lift target (length work.old)) (gives verdict_reply) out.old result out.new }
+    ensures answers { Replies Bool (pairs.Answer plan.now rows cols lift target (length work.old)) verdict out.old result out.new }
     ensures leaves { KeptUnless0 result work.old work.new }
 {
     if out.len() < PLACES {
         return NO_ROOM;
     }
-    let v = treetest::test(
-        plan,
-        rows as usize,
-        cols as usize,
-        lift as usize,
-        target as usize,
-        work,
-    );
-    let r = reply::judged(v);
-    reply::give(r, out)
+    reply::give(
+        treetest::test(
+            plan,
+            rows as usize,
+            cols as usize,
+            lift as usize,
+            target as usize,
+            work,
+        ),
+        out,
+    )
 }
 
 // The decoder: out[0] erasures were filled, out[1] are left.
@@ -133,15 +126,16 @@ pub extern "C" fn qcldpc_fill(
     word: &mut [u8],
     out: &mut [u64],
 ) -> u64
-    ensures answers { Replies Filling (λ a. a ≡ fill_answer plan.now rows cols lift word.old) (gives fill_reply) out.old result out.new }
+    ensures answers { Replies Filling (λ a. a ≡ fill_answer plan.now rows cols lift word.old) counts out.old result out.new }
     ensures leaves { Leaves out.old (fill_word plan.now rows cols lift word.old) word.old word.new }
 {
     if out.len() < PLACES {
         return NO_ROOM;
     }
-    let a = peeling::fill(plan, rows as usize, cols as usize, lift as usize, word);
-    let r = reply::filled(a);
-    reply::give(r, out)
+    reply::give(
+        peeling::fill(plan, rows as usize, cols as usize, lift as usize, word),
+        out,
+    )
 }
 
 // A round of bit flipping: out[0] bits were turned.
@@ -154,15 +148,16 @@ pub extern "C" fn qcldpc_flip(
     word: &mut [u8],
     out: &mut [u64],
 ) -> u64
-    ensures answers { Replies Flipping (λ a. a ≡ flip_answer plan.now rows cols lift word.old) (gives flipped_reply) out.old result out.new }
+    ensures answers { Replies ℕ (λ a. a ≡ flip_answer plan.now rows cols lift word.old) one out.old result out.new }
     ensures leaves { Leaves out.old (flip_word plan.now rows cols lift word.old) word.old word.new }
 {
     if out.len() < PLACES {
         return NO_ROOM;
     }
-    let a = flipping::flip(plan, rows as usize, cols as usize, lift as usize, word);
-    let r = reply::flipped(a);
-    reply::give(r, out)
+    reply::give(
+        flipping::flip(plan, rows as usize, cols as usize, lift as usize, word),
+        out,
+    )
 }
 
 // The encoder: the word then holds the codeword of the data bits. Nothing is put into `out` but a refusal's values.
@@ -176,22 +171,23 @@ pub extern "C" fn qcldpc_encode(
     word: &mut [u8],
     out: &mut [u64],
 ) -> u64
-    ensures answers { Replies Encoding (λ a. a ≡ encoding (encode_refusal plan.now rows cols lift «data».now word.old)) (gives encoded_reply) out.old result out.new }
+    ensures answers { Replies ⊤ (λ a. a ≡ ok_unless (encode_refusal plan.now rows cols lift «data».now word.old)) nothing out.old result out.new }
     ensures leaves { Leaves out.old (after_encode plan.now rows cols lift «data».now word.old) word.old word.new }
 {
     if out.len() < PLACES {
         return NO_ROOM;
     }
-    let a = encoding::encode(
-        plan,
-        rows as usize,
-        cols as usize,
-        lift as usize,
-        data,
-        word,
-    );
-    let r = reply::encoded(a);
-    reply::give(r, out)
+    reply::give(
+        encoding::encode(
+            plan,
+            rows as usize,
+            cols as usize,
+            lift as usize,
+            data,
+            word,
+        ),
+        out,
+    )
 }
 
 // The preview: what the decoder would put into `out`, with the word only read.
@@ -204,14 +200,15 @@ pub extern "C" fn qcldpc_preview(
     word: &[u8],
     out: &mut [u64],
 ) -> u64
-    ensures { Replies Filling (Previews plan.now rows cols lift word.now) (gives fill_reply) out.old result out.new }
+    ensures { Replies Filling (Previews plan.now rows cols lift word.now) counts out.old result out.new }
 {
     if out.len() < PLACES {
         return NO_ROOM;
     }
-    let a = peeling::preview(plan, rows as usize, cols as usize, lift as usize, word);
-    let r = reply::filled(a);
-    reply::give(r, out)
+    reply::give(
+        peeling::preview(plan, rows as usize, cols as usize, lift as usize, word),
+        out,
+    )
 }
 
 // The syndrome: out[0] is 0 where every check is even, else 1, with the lowest odd check in out[1].
@@ -224,26 +221,27 @@ pub extern "C" fn qcldpc_syndrome(
     word: &[u8],
     out: &mut [u64],
 ) -> u64
-    ensures { Replies Syndrome (λ a. a ≡ syndrome_of plan.now rows cols lift word.now) (gives syndrome_reply) out.old result out.new }
+    ensures { Replies (Option ℕ) (λ a. a ≡ syndrome_of plan.now rows cols lift word.now) odd_check out.old result out.new }
 {
     if out.len() < PLACES {
         return NO_ROOM;
     }
-    let a = syndrome::check(plan, rows as usize, cols as usize, lift as usize, word);
-    let r = reply::found(a);
-    reply::give(r, out)
+    reply::give(
+        syndrome::check(plan, rows as usize, cols as usize, lift as usize, word),
+        out,
+    )
 }
 
 // The erasures of a word, for any list of bytes: out[0] is their number. Nothing is refused.
 #[unsafe(no_mangle)]
 pub extern "C" fn qcldpc_count_erasures(word: &[u8], out: &mut [u64]) -> u64
-    ensures { Replies ℕ (λ n. n ≡ erasures word.now) (gives One) out.old result out.new }
+    ensures { Replies ℕ (λ a. a ≡ Ok (erasures word.now)) one out.old result out.new }
 {
     if out.len() < PLACES {
         return NO_ROOM;
     }
     let n = syndrome::byte::count_erasures(word);
-    reply::give(reply::Reply::One(n), out)
+    reply::give(Ok(n), out)
 }
 
 // The plan of a table and a mask, with its row and column weights: out[0] rows and out[1] columns.
@@ -258,7 +256,7 @@ pub extern "C" fn qcldpc_build(
     col_weights: &mut [u16],
     out: &mut [u64],
 ) -> u64
-    ensures answers { Replies Built (λ a. a ≡ built (build_refusal order lift table.now mask.now (held plan.old row_weights.old col_weights.old)) order (weight order mask.now)) (gives built_reply) out.old result out.new }
+    ensures answers { Replies Shape (λ a. a ≡ outcome (build_refusal order lift table.now mask.now (held plan.old row_weights.old col_weights.old)) (built_shape order lift mask.now)) sizes out.old result out.new }
     ensures leaves { Leaves out.old (after_build order lift table.now mask.now (held plan.old row_weights.old col_weights.old)).plan plan.old plan.new }
     ensures rows { Leaves out.old (after_build order lift table.now mask.now (held plan.old row_weights.old col_weights.old)).rows row_weights.old row_weights.new }
     ensures cols { Leaves out.old (after_build order lift table.now mask.now (held plan.old row_weights.old col_weights.old)).cols col_weights.old col_weights.new }
@@ -266,17 +264,18 @@ pub extern "C" fn qcldpc_build(
     if out.len() < PLACES {
         return NO_ROOM;
     }
-    let a = table::build(
-        order as usize,
-        lift as usize,
-        table,
-        mask,
-        plan,
-        row_weights,
-        col_weights,
-    );
-    let r = reply::built(a);
-    reply::give(r, out)
+    reply::give(
+        table::build(
+            order as usize,
+            lift as usize,
+            table,
+            mask,
+            plan,
+            row_weights,
+            col_weights,
+        ),
+        out,
+    )
 }
 
 // The plan of a Steiner triple system, with its row and column weights: out[0] rows and out[1] columns.
@@ -290,7 +289,7 @@ pub extern "C" fn qcldpc_steiner(
     col_weights: &mut [u16],
     out: &mut [u64],
 ) -> u64
-    ensures answers { Replies Built (λ a. a ≡ steiner.built (steiner.build_refusal order lift voltages.now (held plan.old row_weights.old col_weights.old)) order) (gives built_reply) out.old result out.new }
+    ensures answers { Replies Shape (λ a. a ≡ outcome (steiner.build_refusal order lift voltages.now (held plan.old row_weights.old col_weights.old)) (steiner.built_shape order lift)) sizes out.old result out.new }
     ensures leaves { Leaves out.old (steiner.after_build order lift voltages.now (held plan.old row_weights.old col_weights.old)).plan plan.old plan.new }
     ensures rows { Leaves out.old (steiner.after_build order lift voltages.now (held plan.old row_weights.old col_weights.old)).rows row_weights.old row_weights.new }
     ensures cols { Leaves out.old (steiner.after_build order lift voltages.now (held plan.old row_weights.old col_weights.old)).cols col_weights.old col_weights.new }
@@ -298,16 +297,17 @@ pub extern "C" fn qcldpc_steiner(
     if out.len() < PLACES {
         return NO_ROOM;
     }
-    let a = steiner::build(
-        order as usize,
-        lift as usize,
-        voltages,
-        plan,
-        row_weights,
-        col_weights,
-    );
-    let r = reply::built(a);
-    reply::give(r, out)
+    reply::give(
+        steiner::build(
+            order as usize,
+            lift as usize,
+            voltages,
+            plan,
+            row_weights,
+            col_weights,
+        ),
+        out,
+    )
 }
 
 // One entry changed, with the row and column weights kept true.
@@ -324,8 +324,8 @@ pub extern "C" fn qcldpc_change(
     col_weights: &mut [u16],
     out: &mut [u64],
 ) -> u64
-    ensures answers { Replies Changed (λ a. a ≡ changed (refusal_of (call rows cols lift row col entry) (held plan.old row_weights.old col_weights.old)))
-        (gives changed_reply) out.old result out.new }
+    ensures answers { Replies ⊤ (λ a. a ≡ ok_unless (refusal_of (call rows cols lift row col entry) (held plan.old row_weights.old col_weights.old)))
+        nothing out.old result out.new }
     ensures leaves { Leaves out.old (after (call rows cols lift row col entry) (held plan.old row_weights.old col_weights.old)).plan
         plan.old plan.new }
     ensures rows { Leaves out.old (after (call rows cols lift row col entry) (held plan.old row_weights.old col_weights.old)).rows
@@ -336,19 +336,20 @@ pub extern "C" fn qcldpc_change(
     if out.len() < PLACES {
         return NO_ROOM;
     }
-    let a = change::change(
-        plan,
-        rows as usize,
-        cols as usize,
-        lift as usize,
-        row as usize,
-        col as usize,
-        entry,
-        row_weights,
-        col_weights,
-    );
-    let r = reply::changed(a);
-    reply::give(r, out)
+    reply::give(
+        change::change(
+            plan,
+            rows as usize,
+            cols as usize,
+            lift as usize,
+            row as usize,
+            col as usize,
+            entry,
+            row_weights,
+            col_weights,
+        ),
+        out,
+    )
 }
 
 // Two plans made one: out[0] is the joined lift.
@@ -365,47 +366,46 @@ pub extern "C" fn qcldpc_join(
     joined: &mut [i16],
     out: &mut [u64],
 ) -> u64
-    ensures answers { Replies Joining (λ a. a ≡ joining (join_refusal (sized first.now rows cols lift) (sized second.now rows2 cols2 lift2) (length joined.old)) (lift * lift2))
-        (gives joined_reply) out.old result out.new }
+    ensures answers { Replies ℕ (λ a. a ≡ outcome (join_refusal (sized first.now rows cols lift) (sized second.now rows2 cols2 lift2) (length joined.old)) (lift * lift2))
+        one out.old result out.new }
     ensures leaves { Leaves out.old (after_join (sized first.now rows cols lift) (sized second.now rows2 cols2 lift2) joined.old)
         joined.old joined.new }
 {
     if out.len() < PLACES {
         return NO_ROOM;
     }
-    let a = crt::join(
-        first,
-        rows as usize,
-        cols as usize,
-        lift as usize,
-        second,
-        rows2 as usize,
-        cols2 as usize,
-        lift2 as usize,
-        joined,
-    );
-    let r = reply::joined(a);
-    reply::give(r, out)
+    reply::give(
+        crt::join(
+            first,
+            rows as usize,
+            cols as usize,
+            lift as usize,
+            second,
+            rows2 as usize,
+            cols2 as usize,
+            lift2 as usize,
+            joined,
+        ),
+        out,
+    )
 }
 
 // A supplied table.
 fn supply(family: Family, order: u64, table: &mut [i16], out: &mut [u64]) -> u64
-    ensures answers { Replies Supplied (λ a. a ≡ supplied (lowest (supply_rules order (length table.old)))) (gives supplied_reply) out.old result out.new }
+    ensures answers { Replies ⊤ (λ a. a ≡ ok_unless (lowest (supply_rules order (length table.old)))) nothing out.old result out.new }
     ensures leaves { Leaves out.old (lent (lowest (supply_rules order (length table.old)))
         (supplied_table family order) table.old) table.old table.new }
 {
     if out.len() < PLACES {
         return NO_ROOM;
     }
-    let a = table::supply::supply(family, order as usize, table);
-    let r = reply::supplied(a);
-    reply::give(r, out)
+    reply::give(table::supply::supply(family, order as usize, table), out)
 }
 
 // The array table.
 #[unsafe(no_mangle)]
 pub extern "C" fn qcldpc_array_table(order: u64, table: &mut [i16], out: &mut [u64]) -> u64
-    ensures answers { Replies Supplied (λ a. a ≡ supplied (lowest (supply_rules order (length table.old)))) (gives supplied_reply) out.old result out.new }
+    ensures answers { Replies ⊤ (λ a. a ≡ ok_unless (lowest (supply_rules order (length table.old)))) nothing out.old result out.new }
     ensures leaves { Leaves out.old (lent (lowest (supply_rules order (length table.old)))
         (supplied_table Array order) table.old) table.old table.new }
 {
@@ -415,7 +415,7 @@ pub extern "C" fn qcldpc_array_table(order: u64, table: &mut [i16], out: &mut [u
 // The cyclic table.
 #[unsafe(no_mangle)]
 pub extern "C" fn qcldpc_cyclic_table(order: u64, table: &mut [i16], out: &mut [u64]) -> u64
-    ensures answers { Replies Supplied (λ a. a ≡ supplied (lowest (supply_rules order (length table.old)))) (gives supplied_reply) out.old result out.new }
+    ensures answers { Replies ⊤ (λ a. a ≡ ok_unless (lowest (supply_rules order (length table.old)))) nothing out.old result out.new }
     ensures leaves { Leaves out.old (lent (lowest (supply_rules order (length table.old)))
         (supplied_table Cyclic order) table.old) table.old table.new }
 {
@@ -434,25 +434,26 @@ pub extern "C" fn qcldpc_alist_write(
     text: &mut [u8],
     out: &mut [u64],
 ) -> u64
-    ensures answers { Replies Written (λ a. a ≡ written (length (alist_text plan.now rows cols lift)) (lowest (write_rules plan.now rows cols lift row_weights.now col_weights.now text.old)))
-        (gives written_reply) out.old result out.new }
+    ensures answers { Replies ℕ (λ a. a ≡ outcome (lowest (write_rules plan.now rows cols lift row_weights.now col_weights.now text.old)) (length (alist_text plan.now rows cols lift)))
+        one out.old result out.new }
     ensures leaves { Leaves out.old (laid (lowest (write_rules plan.now rows cols lift row_weights.now col_weights.now text.old)) (alist_text plan.now rows cols lift) text.old)
         text.old text.new }
 {
     if out.len() < PLACES {
         return NO_ROOM;
     }
-    let a = alist::write(
-        plan,
-        rows as usize,
-        cols as usize,
-        lift as usize,
-        row_weights,
-        col_weights,
-        text,
-    );
-    let r = reply::written(a);
-    reply::give(r, out)
+    reply::give(
+        alist::write(
+            plan,
+            rows as usize,
+            cols as usize,
+            lift as usize,
+            row_weights,
+            col_weights,
+            text,
+        ),
+        out,
+    )
 }
 
 // A lent text against the alist of a plan.
@@ -467,20 +468,21 @@ pub extern "C" fn qcldpc_alist_compare(
     text: &[u8],
     out: &mut [u64],
 ) -> u64
-    ensures { Replies Comparison (λ a. a ≡ comparison (lowest (compare_rules plan.now rows cols lift row_weights.now col_weights.now text.now))) (gives compared_reply) out.old result out.new }
+    ensures { Replies ⊤ (λ a. a ≡ ok_unless (lowest (compare_rules plan.now rows cols lift row_weights.now col_weights.now text.now))) nothing out.old result out.new }
 {
     if out.len() < PLACES {
         return NO_ROOM;
     }
-    let a = alist::compare(
-        plan,
-        rows as usize,
-        cols as usize,
-        lift as usize,
-        row_weights,
-        col_weights,
-        text,
-    );
-    let r = reply::compared(a);
-    reply::give(r, out)
+    reply::give(
+        alist::compare(
+            plan,
+            rows as usize,
+            cols as usize,
+            lift as usize,
+            row_weights,
+            col_weights,
+            text,
+        ),
+        out,
+    )
 }

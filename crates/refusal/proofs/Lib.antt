@@ -1,3 +1,4 @@
+pub mod Answer
 pub mod Lowest
 pub mod Place
 pub mod Number

@@ -7,6 +7,12 @@ use mathlib.Core.List.{List, [], ◌∷◌}
 use native.Mathlib.Omega.{arith}
 use borrow.Author.Tests.{lt-ltb, le-ltb, ltb-true, ltb-false}
 use lib.ListN.{length, get_or}
+use Rattle.std.specs.Prelude.{None, Some}
+use Rattle.std.specs.Prelude.{cond, ◌+◌}
+use Rattle.std.specs.List.{position, position_or_len}
+use Rattle.std.proofs.lemmas.Option.{none-some}
+use Rattle.std.proofs.lemmas.List.Recursion.{is_position_or_len}
+use lib.Dec.{ltb}
 use Rattle.refusal.specs.Place.{first_place, somewhere, First}
 
 by_bool : {C : Type 0} (t : Bool) → (t ≡ true → C) → (t ≡ false → C) → C
@@ -81,3 +87,26 @@ module _ {A : Type 0} (test : A → Bool) (d : A) where
           let e = first_at l k (λ i q. fails (test (get_or l i d)) (λ t. w.nowhere_before i q ((tells (get_or l i d)).0 t))) w.inside ((tells (get_or l k d)).1 w.holds) in
           (somewhere_at l k e w.inside, e),
     )
+
+-- std's `position` names the same place
+pub first_position : {A : Type 0} (test : A → Bool) (l : List A) → first_place test l ≡ position_or_len test l
+unfolding first_place
+first_position test l = is_position_or_len (first_place test) test refl step l
+  where
+    step : (x : _) (xs : _) → first_place test (x ∷ xs) ≡ cond (test x) 0 (1 + first_place test xs)
+    step x xs = by_bool (test x) (λ e. rw e refl) (λ e. rw e (omega arith))
+
+some_same : (a b : ℕ) → Some a ≡ Some b → a ≡ b
+some_same a b e = cc
+
+pub position_some : {A : Type 0} (test : A → Bool) (l : List A) (k : ℕ) → position test l ≡ Some k → (somewhere test l ≡ true) × (first_place test l ≡ k)
+position_some test l k e =
+    by_bool (ltb (position_or_len test l) (length l))
+    (λ t. let p = first_position test l in let q = rw t at e in (rw p t, p ∙ some_same (position_or_len test l) k q))
+    (λ t. absurd (none-some k (rw t at e)))
+
+pub position_none : {A : Type 0} (test : A → Bool) (l : List A) → position test l ≡ None → somewhere test l ≡ false
+position_none test l e =
+    by_bool (ltb (position_or_len test l) (length l))
+    (λ t. absurd (none-some (position_or_len test l) (sym (rw t at e))))
+    (λ t. let p = first_position test l in rw p t)

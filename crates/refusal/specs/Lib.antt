@@ -2,3 +2,4 @@ pub mod Number
 pub mod Lowest
 pub mod Place
 pub mod Lent
+pub mod Answer

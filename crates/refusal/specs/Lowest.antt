@@ -1,7 +1,7 @@
 -- The lowest numbered refusal that applies (document 01, "Turned away"). A call lists its refusals in rising order of number,
 -- each with the test that says whether it applies; the answer is the first whose test holds.
 use Rattle.std.specs.Prelude.{ℕ, ◌≤◌, Bool, true, cond, ◌&&◌, List, [], ◌∷◌, ltb}
-use Rattle.std.proofs.Math.Option.{Option, none, some}
+use Rattle.std.specs.Prelude.{Option, None, Some}
 use Rattle.refusal.specs.declared.Refusal.{Refusal}
 use Rattle.refusal.specs.Number.{number}
 
@@ -15,19 +15,19 @@ refuse r test = record { applies = test; refusal = r }
 
 -- the refusal of the first rule that applies
 unfoldable pub lowest : List Rule → Option Refusal
-lowest [] = none
-lowest (rule ∷ rules) = let later = lowest rules in cond rule.applies (some rule.refusal) later
+lowest [] = None
+lowest (rule ∷ rules) = let later = lowest rules in cond rule.applies (Some rule.refusal) later
 
 -- of two refusals the one with the lower number; where the numbers are the same, the first
 abbrev pub lower : Option Refusal → Option Refusal → Option Refusal
-lower none b = b
-lower (some r) none = some r
-lower (some r) (some s) = cond (ltb (number s) (number r)) (some s) (some r)
+lower None b = b
+lower (Some r) None = Some r
+lower (Some r) (Some s) = cond (ltb (number s) (number r)) (Some s) (Some r)
 
 -- a refusal, or, where there is none, a later one
 abbrev pub or_else : Option Refusal → Option Refusal → Option Refusal
-or_else none later = later
-or_else (some r) later = some r
+or_else None later = later
+or_else (Some r) later = Some r
 
 -- the numbers of the rules rise from n on
 abbrev pub rise_from : ℕ → List Rule → Bool

@@ -1,10 +1,11 @@
 #![tactic(auto)]
 
-pub mod numbers; // numbers.rt: the number and the values of a refusal, as numbers
+ghost use Rattle.std.specs.Prelude.{◌≡◌};
+ghost use Rattle.refusal.specs.Number.{number};
 
 // Why a call turns its caller away: one case for each number of documents 01 and 02, "Turned away", with the values it carries.
 // Places count from 0. `number` and `values` of specs/Number.antt give the document's number and values.
-#[derive(Clone, Copy)]
+#[derive(Clone, Copy, Debug, PartialEq, Eq)]
 pub enum Refusal {
     // 1 to 6: the plan designer.
     Rows,
@@ -56,4 +57,46 @@ pub enum Refusal {
     DataBits,
     // 32: who has bits turned.
     ColumnWeight,
+}
+
+impl Refusal {
+    // The document's number of a refusal.
+    pub fn number(self) -> u64
+        ensures { result ≡ number self }
+    {
+        match self {
+            Refusal::Rows => 1,
+            Refusal::Cols => 2,
+            Refusal::Lift => 3,
+            Refusal::Bits => 4,
+            Refusal::PlanLength => 5,
+            Refusal::Entry(_) => 6,
+            Refusal::Order => 7,
+            Refusal::TableLength => 8,
+            Refusal::NegativeEntry(_) => 9,
+            Refusal::Unsound { .. } => 10,
+            Refusal::MaskByte => 11,
+            Refusal::MaskWeight => 12,
+            Refusal::TableBits => 13,
+            Refusal::Target => 14,
+            Refusal::PlanPlace => 15,
+            Refusal::WordLength => 16,
+            Refusal::TextPlace(_) => 17,
+            Refusal::Byte(_) => 18,
+            Refusal::Erasure(_) => 19,
+            Refusal::NoSolution => 20,
+            Refusal::Token(_) => 21,
+            Refusal::SteinerOrder => 22,
+            Refusal::SteinerLength => 23,
+            Refusal::BlockPlace => 24,
+            Refusal::Weights => 25,
+            Refusal::WorkPlace => 26,
+            Refusal::SharedDivisor => 27,
+            Refusal::PlansDiffer => 28,
+            Refusal::JoinedPlace => 29,
+            Refusal::NotBidiagonal => 30,
+            Refusal::DataBits => 31,
+            Refusal::ColumnWeight => 32,
+        }
+    }
 }

@@ -1,28 +1,26 @@
--- Counts by one number more, as the code's loops make them. Assumes nothing.
-use Prim.Native.Nat.{ℕ, ◌+◌, ◌≤◌}
-use mathlib.Core.Path.{◌≡◌, ap, ◌∙◌}
-use mathlib.Core.Bool.{Bool, true, false}
-use native.Mathlib.Nat.{zero-add}
+-- Counts of the numbers below n: a bound, and how the code's chains make them. Assumes nothing.
+use Prim.Native.Nat.{ℕ, zero, suc, ◌≤◌}
+use mathlib.Core.Path.{◌≡◌, refl, sym, ◌∙◌}
+use mathlib.Core.Bool.{Bool}
 use native.Mathlib.Omega.{arith}
-use Rattle.graph.specs.Count.{range, below, one, count}
-use Rattle.graph.proofs.Count.{range_append, length_range, count_append, count_le}
+use lib.ListN.{length}
+use Rattle.std.proofs.Common.{add-one}
+use Rattle.std.specs.List.{filter, count_by, range_with_len}
+use Rattle.std.proofs.lemmas.Grind.{common_steps}
+use Rattle.std.proofs.lemmas.List.Sums.{length-filter}
+use Rattle.graph.proofs.Decide.{by_bool}
+use Rattle.graph.specs.Count.{range, below, count}
+use Rattle.graph.proofs.Count.{length_range, count_le}
 
 module _ (f : ℕ → Bool) where
-  pub count_more : (k : ℕ) → count f (below (k + 1)) ≡ count f (below k) + one (f k)
-  unfolding count range
-  count_more k =
-      ap (count f) (range_append 0 k 1) ∙ count_append f (below k) (range (0 + k) 1) ∙ ap (λ (x : ℕ). count f (below k) + x) (omega (arith, ap (λ (x : ℕ). one (f x)) (zero-add k)))
-
-  -- a turn of a loop that counts
-  module _ (k n : ℕ) (inv : n ≡ count f (below k)) where
-    pub count_yes : f k ≡ true → n + 1 ≡ count f (below (k + 1))
-    count_yes e = omega (arith, count_more k, ap one e)
-
-    pub count_no : f k ≡ false → n ≡ count f (below (k + 1))
-    count_no e = omega (arith, count_more k, ap one e)
-
-    pub count_end : (j : ℕ) → k ≤ j → j ≤ k → n ≡ count f (below j)
-    count_end j h g = let e : k ≡ j = omega arith in inv ∙ ap (λ (x : ℕ). count f (below x)) e
-
   pub count_small : (k : ℕ) → count f (below k) ≤ k
   count_small k = omega (arith, count_le f (below k), length_range 0 k)
+
+  -- what a chain over the numbers below n counts
+  counted : (a n : ℕ) → count f (range a n) ≡ count_by f (range_with_len a n)
+  unfolding count range
+  counted a zero = refl
+  counted a (suc n) = let e = rw (← add-one) at (counted (suc a) n) in by_bool (f a) (λ t. grind (arith, common_steps, e, t)) (λ t. grind (arith, common_steps, e, t))
+
+  pub length_counted : (n : ℕ) → length (filter f (range_with_len 0 n)) ≡ count f (below n)
+  length_counted n = length-filter f (range_with_len 0 n) ∙ sym (counted 0 n)

@@ -3,7 +3,7 @@ pub mod Each
 pub mod Counts
 pub mod Totals
 pub mod Runs
-pub mod Signs
+pub mod Found
 pub mod Congruent
 pub mod Repeats
 pub mod Weights

@@ -1,5 +1,5 @@
 -- Refusal 10: it applies exactly where the table is not sound, and its four numbers are the first that repeat. Assumes nothing.
-use Prim.Native.Nat.{ℕ, ◌+◌, ◌*◌, ◌/◌, ◌%◌, ◌<◌, ◌≤◌}
+use Prim.Native.Nat.{ℕ, ◌+◌, ◌*◌, ◌/◌, ◌%◌, ◌<◌}
 use mathlib.Core.Path.{◌≡◌, refl, sym, ap, ap₂, subst, ◌∙◌}
 use mathlib.Core.Logic.{◌⊎◌, inl, inr, ◌↔◌}
 use mathlib.Core.Bool.{Bool, true, false}
@@ -8,15 +8,19 @@ use native.Mathlib.Nat.{div-add-mod', mul-le-mul_right}
 use native.Mathlib.Omega.{arith}
 use lib.Dec.{ltb}
 use lib.ListN.{length, get_or}
+use Rattle.std.specs.Prelude.{Some, None}
+use Rattle.std.specs.List.{find}
+use Rattle.std.proofs.lemmas.Option.{none-some, same_Some}
 use Rattle.refusal.specs.Place.{first_place}
-use borrow.Author.Tests.{ltb-true, lt-ltb, le-ltb, eqb-true, eq-eqb}
-use Rattle.refusal.proofs.Place.{first_at, first_none, before_first, at_first, somewhere_at, somewhere_no, somewhere_none}
+use borrow.Author.Tests.{ltb-true, lt-ltb, eqb-true, eq-eqb}
+use Rattle.refusal.proofs.Place.{first_at, before_first, at_first, somewhere_at, somewhere_no, somewhere_none}
 use Rattle.graph.proofs.Decide.{by_bool, by_le, both_ways, and_left, and_right, and_both}
 use Rattle.exponent.proofs.Numbers.{block_of_law, place_of, number_low}
 use Rattle.square.specs.declared.search.Quad.{Quad}
 use Rattle.square.specs.Table.{minus, Sound, Repeat, Before, repeats, quads, unsound, first_repeat}
 use Rattle.square.specs.Inner.{quad}
 use Rattle.square.proofs.Places.{quad_within}
+use Rattle.square.proofs.Found.{find_is}
 use Rattle.square.proofs.Each.{length_ones, ones_at, quads_are}
 use Rattle.square.proofs.Congruent.{of_minus, to_minus}
 
@@ -32,27 +36,31 @@ module _ (J : ℕ) (some : 0 < J) where
   quads_at n h = ap (λ (l : List Quad). get_or l n no_quad) (quads_are J some) ∙ ones_at (J * J * J * J) (quad J) no_quad n h
 
 module _ (J lift : ℕ) (s : ℕ → ℕ → ℕ) (some : 0 < J) (n : ℕ) (before : (m : ℕ) → m < n → repeats lift s (quad J m) ≡ false) where
-  pub repeat_at : n < J * J * J * J → repeats lift s (quad J n) ≡ true → first_place (repeats lift s) (quads J) ≡ n
+  repeat_at : n < J * J * J * J → repeats lift s (quad J n) ≡ true → first_place (repeats lift s) (quads J) ≡ n
   repeat_at h e =
       first_at (repeats lift s) no_quad (quads J) n
       (λ i k. ap (repeats lift s) (quads_at J some i (omega arith)) ∙ before i k) (omega (arith, length_quads J some)) (ap (repeats lift s) (quads_at J some n h) ∙ e)
 
-  pub repeat_none : n ≡ J * J * J * J → n ≡ first_place (repeats lift s) (quads J)
-  repeat_none e =
-      e ∙ sym (length_quads J some)
-      ∙ sym (first_none (repeats lift s) no_quad (quads J)
+  -- what the search answers at n, and at its end
+  pub found_at : n < J * J * J * J → repeats lift s (quad J n) ≡ true → find (repeats lift s) (quads J) ≡ Some (quad J n)
+  found_at h e =
+      let p = repeat_at h e in
+      find_is (repeats lift s) no_quad (quads J)
+      ∙ rw (somewhere_at (repeats lift s) no_quad (quads J) n p (omega (arith, length_quads J some)), p, quads_at J some n h)
+
+  pub found_nowhere : n ≡ J * J * J * J → find (repeats lift s) (quads J) ≡ None
+  found_nowhere e =
+      find_is (repeats lift s) no_quad (quads J)
+      ∙ rw (somewhere_none (repeats lift s) no_quad (quads J)
       (λ i k. let h : i < J * J * J * J = omega (arith, length_quads J some) in ap (repeats lift s) (quads_at J some i h) ∙ before i (omega arith)))
 
--- refusal 10 in the code: the first place is n
-module _ (J lift : ℕ) (s : ℕ → ℕ → ℕ) (some : 0 < J) (n : ℕ) (first : n ≡ first_place (repeats lift s) (quads J)) where
-  pub unsound_yes : n < J * J * J * J → unsound J lift s ≡ true
-  unsound_yes h = somewhere_at (repeats lift s) no_quad (quads J) n (sym first) (omega (arith, length_quads J some))
+-- refusal 10 in the code: what the search found
+module _ (J lift : ℕ) (s : ℕ → ℕ → ℕ) where
+  pub found_some : (q : Quad) → find (repeats lift s) (quads J) ≡ Some q → (unsound J lift s ≡ true) × (first_repeat J lift s ≡ q)
+  found_some q e = by_bool (unsound J lift s) (λ t. let f = rw t at (sym (find_is (repeats lift s) no_quad (quads J)) ∙ e) in (t, same_Some _ _ f)) (λ t. absurd (none-some q (rw t at (sym (find_is (repeats lift s) no_quad (quads J)) ∙ e))))
 
-  pub unsound_no : J * J * J * J ≤ n → unsound J lift s ≡ false
-  unsound_no h = le-ltb (first_place (repeats lift s) (quads J)) (length (quads J)) (omega (arith, first, length_quads J some))
-
-  pub first_quad : n < J * J * J * J → quad J n ≡ first_repeat J lift s
-  first_quad h = sym (quads_at J some n h) ∙ ap (λ (k : ℕ). get_or (quads J) k no_quad) first
+  pub found_none : find (repeats lift s) (quads J) ≡ None → unsound J lift s ≡ false
+  found_none e = by_bool (unsound J lift s) (λ t. absurd (none-some _ (sym (rw t at (sym (find_is (repeats lift s) no_quad (quads J)) ∙ e))))) (λ t. t)
 
 -- a quadruple is written with its four numbers
 code : ℕ → Quad → ℕ

@@ -17,7 +17,8 @@ use Rattle.graph.proofs.Cases.{all, all_at}
 use Rattle.exponent.proofs.Numbers.{block_of_law, place_of}
 use Rattle.square.specs.declared.supply.Family.{Family}
 use Rattle.square.specs.declared.supply.Family.TheVariants.{Array, Cyclic}
-use Rattle.square.specs.Table.{natural, signed, table_at, minus, Sound, quads, unsound, half, supplied_at, supplied_table}
+use Rattle.std.specs.Option.{unwrap_or}
+use Rattle.square.specs.Table.{signed, table_at, minus, Sound, quads, unsound, half, supplied_at, supplied_table}
 use Rattle.square.proofs.Places.{place, square}
 use Rattle.square.proofs.Each.{ones_at, supplied_are}
 use Rattle.square.proofs.Congruent.{of_minus, close}
@@ -34,7 +35,7 @@ supplied_small Cyclic J i r h k = half_small _ (omega (arith, mod-lt (r + (J - i
 -- THE LIST holds what the formula says, so it is sound where the formula is
 pub supplied_is : (family : Family) (J : ℕ) → 0 < J → (i r : ℕ) → i < J → r < J → table_at J (supplied_table family J) i r ≡ supplied_at family J i r
 supplied_is family J some i r hi hr =
-    ap (λ (z : ℤ). natural (signed z))
+    ap (λ (z : ℤ). unwrap_or (signed z) 0)
     (ap (λ (l : List ℤ). get_or l (i * J + r) (pos 0)) (supplied_are J some family)
     ∙ ones_at (J * J) (λ n. pos (supplied_at family J (n / J) (n % J))) (pos 0) (i * J + r) (place J i r hi hr)
     ∙ ap pos (ap₂ (supplied_at family J) (block_of_law J some i r hr) (place_of J some i r hr)))

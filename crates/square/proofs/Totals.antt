@@ -9,9 +9,9 @@ use native.Mathlib.Numerals.{add-one}
 use native.Mathlib.Omega.{arith}
 use lib.ListN.{length, get_or}
 use Rattle.graph.specs.Count.{range, below, one, count}
+use Rattle.graph.proofs.Count.{count_last}
 use Rattle.graph.proofs.Decide.{by_eq}
 use Rattle.square.specs.Each.{each, upon}
-use Rattle.square.proofs.Counts.{count_more}
 
 -- g 0 + g 1 + … + g (n − 1)
 unfoldable pub total : ℕ → (ℕ → ℕ) → ℕ
@@ -43,7 +43,7 @@ total_at (suc n) i g h e =
 pub total_count : (n : ℕ) (f : ℕ → Bool) → total n (λ i. one (f i)) ≡ count f (below n)
 unfolding total count range
 total_count zero f = refl
-total_count (suc n) f = omega (arith, total_count n f, ap (λ (k : ℕ). count f (below k)) (add-one n), count_more f n)
+total_count (suc n) f = omega (arith, total_count n f, ap (λ (k : ℕ). count f (below k)) (add-one n), count_last f n)
 
 -- exactly one pair passes
 pub total_once : (n m u v : ℕ) (f : ℕ → ℕ → Bool) → u < n → v < m → f u v ≡ true → ((x y : ℕ) → x ≢ u → f x y ≡ false) → ((y : ℕ) → y ≢ v → f u y ≡ false)

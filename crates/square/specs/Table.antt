@@ -1,26 +1,17 @@
 -- Tables (document 01, "Table plans"; 004: the matrix B): J × J entries s(i, r), row by row. J is the order, P the lift.
-use Rattle.std.specs.Prelude.{ℕ, ◌+◌, ◌-◌, ◌*◌, ◌/◌, ◌%◌, ◌<◌, ◌≡◌, ◌≢◌, ◌⊎◌, Bool, true, false, cond, ◌&&◌, List, [], ◌∷◌, ltb, eqb, ℤ, pos, negsuc, get_or}
+use Rattle.std.specs.Prelude.{Option, Some, None}
+use Rattle.std.specs.Option.{is_none, unwrap_or}
+use Rattle.std.specs.Prelude.{ℕ, ◌+◌, ◌-◌, ◌*◌, ◌/◌, ◌%◌, ◌<◌, ◌≡◌, ◌≢◌, ◌⊎◌, Bool, cond, ◌&&◌, List, [], ◌∷◌, ltb, eqb, ℤ, pos, negsuc, get_or}
 use Rattle.refusal.specs.Place.{first_place, somewhere}
-use Rattle.square.specs.declared.signed.Signed.{Signed}
-use Rattle.square.specs.declared.signed.Signed.TheVariants.{Natural, Negative}
 use Rattle.square.specs.declared.search.Quad.{Quad}
 use Rattle.square.specs.declared.supply.Family.{Family}
 use Rattle.square.specs.declared.supply.Family.TheVariants.{Array, Cyclic}
 use Rattle.square.specs.Each.{each}
 
 -- an entry is a natural number, or negative
-abbrev pub signed : ℤ → Signed
-signed (pos n) = Natural n
-signed (negsuc n) = Negative
-
-abbrev pub is_negative : Signed → Bool
-is_negative (Natural n) = false
-is_negative Negative = true
-
--- 0 for a negative entry, which refusal 9 turns away
-abbrev pub natural : Signed → ℕ
-natural (Natural n) = n
-natural Negative = 0
+abbrev pub signed : ℤ → Option ℕ
+signed (pos n) = Some n
+signed (negsuc n) = None
 
 -- a filled block's entry, or −1
 abbrev pub block : Bool → ℕ → ℤ
@@ -28,11 +19,11 @@ block filled e = cond filled (pos e) (negsuc 0)
 
 -- the entry that refusal 9 names
 abbrev pub negative : ℤ → Bool
-negative z = is_negative (signed z)
+negative z = is_none (signed z)
 
--- s(i, r)
+-- s(i, r), and 0 where the entry is negative, which refusal 9 turns away
 abbrev pub table_at : ℕ → List ℤ → ℕ → ℕ → ℕ
-table_at order table i r = natural (signed (get_or table (i * order + r) (pos 0)))
+table_at order table i r = unwrap_or (signed (get_or table (i * order + r) (pos 0))) 0
 
 -- a − b modulo the lift, as a number below it
 abbrev pub minus : ℕ → ℕ → ℕ → ℕ

@@ -4,18 +4,14 @@ ghost use Rattle.graph.specs.Count.{below, count};
 ghost use Rattle.square.specs.Mask.{row_ones, common};
 ghost use Rattle.square.specs.Inner.{Lines, line_ones};
 
+// No common weight is less.
+const LEAST: usize = 4;
+
 // Whether some byte is above 1.
 pub fn above_one(mask: &[u8]) -> bool
     ensures { result ≡ somewhere (ltb 1) mask.now }
 {
-    let mut place = 0;
-    while place < mask.len() {
-        if 1 < mask[place] {
-            return true;
-        }
-        place += 1;
-    }
-    false
+    mask.iter().any(|&byte| 1 < byte)
 }
 
 // How many of the bytes at from, from + step, … are 1; there are `order` of them.
@@ -23,16 +19,7 @@ pub fn count_ones(mask: &[u8], order: usize, from: usize, step: usize) -> usize
     requires { (order < 8) × (step < 8) × (from < 64) × ((k : ℕ) → k < order → from + k * step < length mask.now) }
     ensures { result ≡ line_ones order mask.now from step }
 {
-    let mut n = 0;
-    let mut k = 0;
-    while k < order {
-        let one = mask[from + k * step] == 1;
-        k += 1;
-        if one {
-            n += 1;
-        }
-    }
-    n
+    (0..order).filter(|&k| mask[from + k * step] == 1).count()
 }
 
 // How many of the lines that begin at 0, across, 2 × across, … and go on by `step` have exactly `weight` ones.
@@ -40,16 +27,9 @@ fn lines_of(mask: &[u8], order: usize, across: usize, step: usize, weight: usize
     requires { Lines order mask.now across step }
     ensures { result ≡ count (λ j. eqb (line_ones order mask.now (j * across) step) weight) (below order) }
 {
-    let mut n = 0;
-    let mut j = 0;
-    while j < order {
-        let ones = count_ones(mask, order, j * across, step);
-        j += 1;
-        if ones == weight {
-            n += 1;
-        }
-    }
-    n
+    (0..order)
+        .filter(|&j| count_ones(mask, order, j * across, step) == weight)
+        .count()
 }
 
 // Whether the ones of the first row are at least 4, and each row and each column has as many.
@@ -57,11 +37,7 @@ pub fn common(mask: &[u8], order: usize, weight: usize) -> bool
     requires { (0 < order) × (order < 8) × (length mask.now ≡ order * order) × (weight ≡ row_ones order mask.now 0) }
     ensures { result ≡ common order mask.now }
 {
-    if weight < 4 {
-        return false;
-    }
-    if lines_of(mask, order, order, 1, weight) != order {
-        return false;
-    }
-    lines_of(mask, order, 1, order, weight) == order
+    LEAST <= weight
+        && lines_of(mask, order, order, 1, weight) == order
+        && lines_of(mask, order, 1, order, weight) == order
 }

@@ -1,41 +1,11 @@
-ghost use Rattle.std.specs.Prelude.{◌≡◌, ◌<◌, pos, length, get_or};
-ghost use Rattle.square.specs.Table.{signed, is_negative, natural, block};
+ghost use Rattle.std.specs.Prelude.{◌≡◌, ◌<◌};
+ghost use Rattle.square.specs.Table.{signed, block};
 
-// An entry of a table.
-#[derive(Clone, Copy)]
-pub enum Signed {
-    Natural(usize),
-    Negative,
-}
-
-// The entry at a place. No other function reads an entry of a table.
-pub fn read(table: &[i16], place: usize) -> Signed
-    requires { place < length table.now }
-    ensures { result ≡ signed (get_or table.now place (pos 0)) }
+// An entry of a table: a natural number, or none where it is negative. No other function reads an entry of a table.
+pub fn entry(e: i16) -> Option<usize>
+    ensures { result ≡ signed e }
 {
-    let e = table[place];
-    if e < 0 {
-        return Signed::Negative;
-    }
-    Signed::Natural(e as usize)
-}
-
-pub fn is_negative(s: Signed) -> bool
-    ensures { result ≡ is_negative s }
-{
-    match s {
-        Signed::Natural(_) => false,
-        Signed::Negative => true,
-    }
-}
-
-pub fn natural(s: Signed) -> usize
-    ensures { result ≡ natural s }
-{
-    match s {
-        Signed::Natural(n) => n,
-        Signed::Negative => 0,
-    }
+    usize::try_from(e).ok()
 }
 
 // A filled block's entry, or −1. No other function makes the signed numbers that the library writes.
@@ -43,8 +13,5 @@ pub fn make(filled: bool, e: usize) -> i16
     requires { e < 4096 }
     ensures { result ≡ block filled e }
 {
-    if filled {
-        return e as i16;
-    }
-    -1
+    if filled { e as i16 } else { -1 }
 }

@@ -4,7 +4,7 @@ ghost use Rattle.square.specs.Table.{half, supplied_at, supplied_table};
 use crate::signed;
 
 // The two constructions (004, section III).
-#[derive(Clone, Copy)]
+#[derive(Clone, Copy, Debug, PartialEq, Eq)]
 pub enum Family {
     Array,
     Cyclic,
@@ -15,10 +15,7 @@ fn half(k: usize) -> usize
     requires { k < 8 }
     ensures { result ≡ half k }
 {
-    if k < 1 {
-        return 0;
-    }
-    k * (k - 1) / 2
+    k * k.saturating_sub(1) / 2
 }
 
 // The entry of a supplied table in row i and column r.
@@ -37,9 +34,7 @@ pub fn put_table(family: Family, order: usize, table: &mut [i16])
     requires { (0 < order) × (order < 8) × (length table.old ≡ order * order) }
     ensures { table.new ≡ supplied_table family order }
 {
-    let end = order * order;
-    for n in 0..end {
-        let e = supplied_at(family, order, n / order, n % order);
-        table[n] = signed::make(true, e);
+    for n in 0..order * order {
+        table[n] = signed::make(true, supplied_at(family, order, n / order, n % order));
     }
 }

@@ -3,7 +3,7 @@ use Prim.Native.Nat.{ℕ, ◌*◌, ◌≤◌}
 use mathlib.Core.Path.{◌≡◌, sym, ap, ◌∙◌}
 use mathlib.Core.Bool.{Bool, true, not, ◌&&◌}
 use mathlib.Core.List.{List}
-use mathlib.Core.Option.{none}
+use Rattle.std.specs.Prelude.{None}
 use lib.Dec.{ltb, eqb}
 use lib.IntN.{ℤ}
 use lib.ListN.{length}
@@ -25,7 +25,7 @@ pub record Taken (order lift : ℕ) (voltages : List ℤ) (room : Room) : Type 0
   pub row_list : room.rows ≡ order
   pub col_list : room.cols ≡ cols order
 
-pub taken : (order lift : ℕ) (voltages : List ℤ) (room : Room) → lowest (build_rules order lift voltages room) ≡ none → Taken order lift voltages room
+pub taken : (order lift : ℕ) (voltages : List ℤ) (room : Room) → lowest (build_rules order lift voltages room) ≡ None → Taken order lift voltages room
 unfolding build_rules
 taken order lift voltages room e = all ((none_holds (build_rules order lift voltages room)).0 e)
   where

@@ -4,7 +4,7 @@ use Prim.Native.Nat.{ℕ}
 use mathlib.Core.Path.{◌≡◌, refl}
 use mathlib.Core.Bool.{cond}
 use mathlib.Core.List.{List, [], ◌∷◌, map}
-use mathlib.Core.Option.{Option, none, some}
+use Rattle.std.specs.Prelude.{Option, None, Some}
 use lib.Dec.{ltb}
 use lib.IntN.{ℤ, pos, negsuc}
 use lib.ListN.{replicate}
@@ -38,27 +38,27 @@ case order lift voltages room answer = record { order = order; lift = lift; volt
 -- each refusal, and the last values that are taken; the lowest number where several apply
 abbrev pub cases : List Case
 cases =
-    case 7 1 (zeros 21) (long 49 7 7) none
-    ∷ case 9 4096 (zeros 36) (long 108 9 12) none
-    ∷ case 13 2520 (zeros 78) (long 338 13 26) none
-    ∷ case 13 2521 (zeros 78) (long 338 13 26) (some Bits)
-    ∷ case 15 1872 (zeros 105) (long 525 15 35) none
-    ∷ case 15 1873 (zeros 105) (long 525 15 35) (some Bits)
-    ∷ case 19 1149 (zeros 171) (long 1083 19 57) none
-    ∷ case 19 1150 (zeros 171) (long 1083 19 57) (some Bits)
-    ∷ case 19 0 (zeros 171) (long 1083 19 57) (some Lift)
-    ∷ case 19 4097 (negsuc 0 ∷ []) (long 0 0 0) (some Lift)
-    ∷ case 19 1150 (negsuc 0 ∷ []) (long 0 0 0) (some Bits)
-    ∷ case 20 4096 (pos 0 ∷ negsuc 0 ∷ []) (long 0 0 0) (some (Entry 1))
-    ∷ case 20 4096 (zeros 3) (long 0 0 0) (some SteinerOrder)
-    ∷ case 8 1 (zeros 27) (long 72 0 0) (some SteinerOrder)
-    ∷ case 7 1 (zeros 20) (long 49 7 7) (some SteinerLength)
-    ∷ case 7 1 (zeros 21) (long 48 7 7) (some SteinerLength)
-    ∷ case 7 1 (zeros 21) (long 48 0 0) (some SteinerLength)
-    ∷ case 9 1 (zeros 36) (long 108 8 12) (some Weights)
-    ∷ case 9 1 (zeros 36) (long 108 9 13) (some Weights)
-    ∷ case 9 1 (zeros 36) (long 108 12 9) (some Weights)
-    ∷ case 9 1 (zeros 36) (long 108 0 0) (some Weights)
+    case 7 1 (zeros 21) (long 49 7 7) None
+    ∷ case 9 4096 (zeros 36) (long 108 9 12) None
+    ∷ case 13 2520 (zeros 78) (long 338 13 26) None
+    ∷ case 13 2521 (zeros 78) (long 338 13 26) (Some Bits)
+    ∷ case 15 1872 (zeros 105) (long 525 15 35) None
+    ∷ case 15 1873 (zeros 105) (long 525 15 35) (Some Bits)
+    ∷ case 19 1149 (zeros 171) (long 1083 19 57) None
+    ∷ case 19 1150 (zeros 171) (long 1083 19 57) (Some Bits)
+    ∷ case 19 0 (zeros 171) (long 1083 19 57) (Some Lift)
+    ∷ case 19 4097 (negsuc 0 ∷ []) (long 0 0 0) (Some Lift)
+    ∷ case 19 1150 (negsuc 0 ∷ []) (long 0 0 0) (Some Bits)
+    ∷ case 20 4096 (pos 0 ∷ negsuc 0 ∷ []) (long 0 0 0) (Some (Entry 1))
+    ∷ case 20 4096 (zeros 3) (long 0 0 0) (Some SteinerOrder)
+    ∷ case 8 1 (zeros 27) (long 72 0 0) (Some SteinerOrder)
+    ∷ case 7 1 (zeros 20) (long 49 7 7) (Some SteinerLength)
+    ∷ case 7 1 (zeros 21) (long 48 7 7) (Some SteinerLength)
+    ∷ case 7 1 (zeros 21) (long 48 0 0) (Some SteinerLength)
+    ∷ case 9 1 (zeros 36) (long 108 8 12) (Some Weights)
+    ∷ case 9 1 (zeros 36) (long 108 9 13) (Some Weights)
+    ∷ case 9 1 (zeros 36) (long 108 12 9) (Some Weights)
+    ∷ case 9 1 (zeros 36) (long 108 0 0) (Some Weights)
     ∷ []
 
 abbrev Hold : List Case → Type 0

@@ -5,13 +5,13 @@ use mathlib.Core.Path.{◌≡◌, refl, sym, ap, ap₂, subst, ◌∙◌}
 use mathlib.Core.Logic.{◌≢◌}
 use mathlib.Core.Bool.{true, false}
 use mathlib.Core.List.{List, [], ◌∷◌}
-use mathlib.Core.Option.{none}
+use Rattle.std.specs.Prelude.{Option, None, Some}
+use Rattle.std.specs.Option.{is_some, unwrap_or}
 use native.Mathlib.Nat.{mod-lt, div-add-mod', div-lt_iff_lt-mul}
 use native.Mathlib.Omega.{arith}
-use lib.Dec.{ltb}
 use lib.IntN.{ℤ, pos}
 use lib.ListN.{length, get_or}
-use borrow.Author.Tests.{eq-eqb, ne_eqb, lt-ltb}
+use borrow.Author.Tests.{eq-eqb, ne_eqb}
 use Rattle.refusal.specs.Lowest.{lowest, rising}
 use Rattle.graph.specs.Count.{below}
 use Rattle.graph.specs.Graph.{Bipartite, Joined}
@@ -44,12 +44,12 @@ rules_rise order lift voltages room = refl
 
 -- A POINT of a rising triple, by its place
 module _ (t : Triple) (r : t.a < t.b) (s : t.b < t.c) where
-  placed : (k i : ℕ) → Point t k i → (place_in t i ≡ k) × (k < 3)
-  placed k i first = (simp (eq-eqb t.a t.a refl), omega arith)
-  placed k i second = (simp (ne_eqb t.b t.a (λ e. omega arith), eq-eqb t.b t.b refl), omega arith)
-  placed k i third = (simp (ne_eqb t.c t.a (λ e. omega arith), ne_eqb t.c t.b (λ e. omega arith), eq-eqb t.c t.c refl), omega arith)
+  placed : (k i : ℕ) → Point t k i → place_in t i ≡ Some k
+  placed k i first = simp (eq-eqb t.a t.a refl)
+  placed k i second = simp (ne_eqb t.b t.a (λ e. omega arith), eq-eqb t.b t.b refl)
+  placed k i third = simp (ne_eqb t.c t.a (λ e. omega arith), ne_eqb t.c t.b (λ e. omega arith), eq-eqb t.c t.c refl)
 
-  unplaced : (i : ℕ) → ((k : ℕ) → Point t k i → ⊥) → place_in t i ≡ 3
+  unplaced : (i : ℕ) → ((k : ℕ) → Point t k i → ⊥) → place_in t i ≡ None
   unplaced i h =
       simp (
         ne_eqb i t.a (λ e. h 0 (subst (Point t 0) (sym e) first)),
@@ -84,7 +84,7 @@ module _ (v P : ℕ) (voltages : List ℤ) (known : is_order v ≡ true) (p : 0 
 
   -- the remainder that an entry holds where it is filled
   abbrev shift : ℕ → ℕ → ℕ
-  shift i j = voltage_at voltages (3 * j + place_in (triple_at v j) i) % P
+  shift i j = voltage_at voltages (3 * j + unwrap_or (place_in (triple_at v j) i) 0) % P
 
   low : (i j : ℕ) → shift i j < P
   low i j = mod-lt _ p
@@ -117,15 +117,10 @@ module _ (v P : ℕ) (voltages : List ℤ) (known : is_order v ≡ true) (p : 0 
   entry_of i j hi hj =
       let t = triple_at v j in
       let r = triple_rises v known j hj in
-      let at : (k : ℕ) → place_in t i ≡ k → get_or (steiner_plan v P voltages) (i * cols v + j) (pos 0) ≡ block (ltb k 3) (voltage_at voltages (3 * j + k) % P)
-      = λ k e. is_block i j hi hj ∙ ap (λ (n : ℕ). block (ltb n 3) (voltage_at voltages (3 * j + n) % P)) e in
-      record {
-        filled = λ k q. let (e, h) = placed t r.first r.second k i q in at k e ∙ three_of k h;
-        empty = λ h. at 3 (unplaced t r.first r.second i h);
-      }
-    where
-      three_of : (k : ℕ) → k < 3 → block (ltb k 3) (voltage_at voltages (3 * j + k) % P) ≡ pos (voltage_at voltages (3 * j + k) % P)
-      three_of k h = rw (lt-ltb k 3 h)
+      let at : (o : Option ℕ) → place_in t i ≡ o
+      → get_or (steiner_plan v P voltages) (i * cols v + j) (pos 0) ≡ block (is_some o) (voltage_at voltages (3 * j + unwrap_or o 0) % P)
+      = λ o e. is_block i j hi hj ∙ ap (λ (o : Option ℕ). block (is_some o) (voltage_at voltages (3 * j + unwrap_or o 0) % P)) e in
+      record { filled = λ k q. at (Some k) (placed t r.first r.second k i q); empty = λ h. at None (unplaced t r.first r.second i h) }
 
   valid : (place : ℕ) → place < v * cols v → invalid_entry P (get_or (steiner_plan v P voltages) place (pos 0)) ≡ false
   valid place h =
@@ -191,7 +186,7 @@ module _ (v P : ℕ) (voltages : List ℤ) (known : is_order v ≡ true) (p : 0 
   passing = passes_6 G no_four
 
 -- THE THEOREM: every plan that `build` builds
-pub built_plan_law : (order lift : ℕ) (voltages : List ℤ) (room : Room) → lowest (build_rules order lift voltages room) ≡ none
+pub built_plan_law : (order lift : ℕ) (voltages : List ℤ) (room : Room) → lowest (build_rules order lift voltages room) ≡ None
     → TriplePlan order lift voltages (steiner_plan order lift voltages)
 unfolding ThreeBlocks
 built_plan_law order lift voltages room e =

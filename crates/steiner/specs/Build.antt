@@ -1,6 +1,8 @@
--- The builder (document 02, slips 6 and 7): its refusals in rising order of number, its plan and weights, its answer.
+-- The builder (document 02, slips 6 and 7): its refusals in rising order of number, its plan and weights, its sizes.
+use Rattle.std.specs.Option.{unwrap_or}
+use Rattle.exponent.specs.declared.Shape.{Shape}
 use Rattle.std.specs.Prelude.{ℕ, ◌+◌, ◌*◌, ◌%◌, ◌≤◌, ◌≡◌, true, not, ◌||◌, List, [], ◌∷◌, eqb, ℤ, pos, length, get_or}
-use Rattle.std.proofs.Math.Option.{Option, none, some}
+use Rattle.std.specs.Prelude.{Option}
 use Rattle.refusal.specs.declared.Refusal.{Refusal}
 use Rattle.refusal.specs.declared.Refusal.TheVariants.{Lift, Bits, Entry, SteinerOrder, SteinerLength}
 use Rattle.refusal.specs.Lowest.{Rule, refuse, lowest}
@@ -10,9 +12,7 @@ use Rattle.exponent.specs.Limits.{outside}
 use Rattle.weights.specs.declared.Room.{Room}
 use Rattle.weights.specs.Weights.{shape_of, Held, with_weights, room_of, length_rules}
 use Rattle.square.specs.Each.{each}
-use Rattle.square.specs.Table.{signed, natural, negative, block}
-use Rattle.table.specs.declared.Built.{Built as BuiltAnswer}
-use Rattle.table.specs.declared.Built.TheVariants.{Built, Refused}
+use Rattle.square.specs.Table.{signed, negative, block}
 use Rattle.steiner.specs.System.{is_order, cols, triple_at, place_in, has, too_long}
 
 -- the lift; too many bits; a negative voltage, with its first place; the order; the lengths of voltages and plan; those of the weights
@@ -27,27 +27,26 @@ build_rules order lift voltages room =
 
 -- the voltage at a place (a negative one, which 6 turns away, is taken for 0)
 abbrev pub voltage_at : List ℤ → ℕ → ℕ
-voltage_at voltages n = natural (signed (get_or voltages n (pos 0)))
+voltage_at voltages n = unwrap_or (signed (get_or voltages n (pos 0))) 0
 
 -- the entry of point i and triple j: the voltage of that point of the triple modulo the lift, and −1 elsewhere
 unfoldable pub entry : ℕ → ℕ → List ℤ → ℕ → ℕ → ℤ
-entry order lift voltages i j = block (has (triple_at order j) i) (voltage_at voltages (3 * j + place_in (triple_at order j) i) % lift)
+entry order lift voltages i j = block (has (triple_at order j) i) (voltage_at voltages (3 * j + unwrap_or (place_in (triple_at order j) i) 0) % lift)
 
 -- the plan, row by row: points from 0, triples in the order of the list
 unfoldable pub steiner_plan : ℕ → ℕ → List ℤ → List ℤ
 steiner_plan order lift voltages = each order (λ i. each (cols order) (λ j. entry order lift voltages i j ∷ []))
 
--- THE CALL, of what the three lent lists hold: why it is refused, if it is; the plan with its weights, or all as it was; the answer, in
--- which points are rows and triples are columns
+-- THE CALL, of what the three lent lists hold: why it is refused, if it is; the sizes that it answers else, in which points are rows and
+-- triples are columns; the plan with its weights, or all as it was
 abbrev pub build_refusal : ℕ → ℕ → List ℤ → Held → Option Refusal
 build_refusal order lift voltages h = lowest (build_rules order lift voltages (room_of h))
 
-abbrev pub after_build : ℕ → ℕ → List ℤ → Held → Held
-after_build order lift voltages h = lent (build_refusal order lift voltages h) (with_weights (steiner_plan order lift voltages) (shape_of order (cols order) lift)) h
+abbrev pub built_shape : ℕ → ℕ → Shape
+built_shape order lift = shape_of order (cols order) lift
 
-abbrev pub built : Option Refusal → ℕ → BuiltAnswer
-built none order = Built order (cols order)
-built (some r) order = Refused r
+abbrev pub after_build : ℕ → ℕ → List ℤ → Held → Held
+after_build order lift voltages h = lent (build_refusal order lift voltages h) (with_weights (steiner_plan order lift voltages) (built_shape order lift)) h
 
 -- what the inner functions require
 pub record Ready (order lift : ℕ) (voltages : List ℤ) : Type 0 where

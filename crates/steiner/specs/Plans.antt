@@ -1,6 +1,6 @@
 -- What is promised of a built plan (document 02, slip 6).
 use Rattle.std.specs.Prelude.{ℕ, ◌+◌, ◌-◌, ◌*◌, ◌/◌, ◌%◌, ◌<◌, ◌≡◌, List, ℤ, pos, negsuc, get_or}
-use Rattle.std.proofs.Math.Option.{none}
+use Rattle.std.specs.Prelude.{None}
 use Rattle.refusal.specs.Lowest.{lowest}
 use Rattle.graph.specs.Girth.{Passes}
 use Rattle.exponent.specs.Limits.{plan_rules, WellFormed}
@@ -24,7 +24,7 @@ pub record EntryOf (order lift : ℕ) (voltages : List ℤ) (i j : ℕ) (e : ℤ
 pub record TriplePlan (order lift : ℕ) (voltages plan : List ℤ) : Type 0 where
   -- refusals 1 to 6 cannot fall on it
   pub well_formed : WellFormed plan order (cols order) lift
-  pub accepted_by_1_to_6 : lowest (plan_rules plan order (cols order) lift) ≡ none
+  pub accepted_by_1_to_6 : lowest (plan_rules plan order (cols order) lift) ≡ None
   -- rows are points, columns are triples
   pub entries : (i j : ℕ) → i < order → j < cols order → EntryOf order lift voltages i j (get_or plan (i * cols order + j) (pos 0))
   -- three filled blocks in each column, (v − 1)/2 in each row

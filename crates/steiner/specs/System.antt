@@ -1,5 +1,7 @@
 -- The supplied Steiner triple systems: their orders, and the triples of each in the list.
 use Rattle.std.specs.Prelude.{ℕ, ◌+◌, ◌-◌, ◌*◌, ◌/◌, Bool, cond, ◌&&◌, List, [], ◌∷◌, ltb, eqb, get_or}
+use Rattle.std.specs.Prelude.{Option, None, Some}
+use Rattle.std.specs.Option.{is_some}
 use Rattle.graph.specs.Count.{member}
 use Rattle.steiner.specs.declared.system.Triple.{Triple}
 use Rattle.steiner.specs.Points.{points}
@@ -31,13 +33,13 @@ triple a b c = record { a = a; b = b; c = c }
 unfoldable pub triple_at : ℕ → ℕ → Triple
 triple_at v j = triple (get_or points (start v + 3 * j) 0) (get_or points (start v + 3 * j + 1) 0) (get_or points (start v + 3 * j + 2) 0)
 
--- which point of a triple i is, or 3 where it is none
-abbrev pub place_in : Triple → ℕ → ℕ
-place_in t i = cond (eqb i t.a) 0 (cond (eqb i t.b) 1 (cond (eqb i t.c) 2 3))
+-- which point of a triple i is, if it is one
+abbrev pub place_in : Triple → ℕ → Option ℕ
+place_in t i = cond (eqb i t.a) (Some 0) (cond (eqb i t.b) (Some 1) (cond (eqb i t.c) (Some 2) None))
 
 -- the point i lies in the triple
 abbrev pub has : Triple → ℕ → Bool
-has t i = ltb (place_in t i) 3
+has t i = is_some (place_in t i)
 
 -- the order is one of the five, and a plan of it has more than 65,536 bits
 abbrev pub too_long : ℕ → ℕ → Bool

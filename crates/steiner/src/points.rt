@@ -28,6 +28,7 @@ const POINTS: [u8; 411] = [
 ];
 
 // The number at a place of the list.
+#[tactic(auto, unfolding(crate::specs::Points::points))]
 pub fn point(n: usize) -> usize
     requires { n < 411 }
     ensures { result ≡ get_or points n 0 }

@@ -4,7 +4,7 @@ ghost use Rattle.steiner.specs.System.{is_order, cols, start, triple_at, place_i
 use crate::points;
 
 // Three points, rising.
-#[derive(Clone, Copy)]
+#[derive(Clone, Copy, Debug, PartialEq, Eq)]
 pub struct Triple {
     pub a: usize,
     pub b: usize,
@@ -12,20 +12,15 @@ pub struct Triple {
 }
 
 // Whether an order is one of the five.
+#[tactic(auto, unfolding(crate::specs::System::is_order, graph::specs::Count::member))]
 pub fn is_order(order: usize) -> bool
     ensures { result ≡ is_order order }
 {
-    match order {
-        7 => true,
-        9 => true,
-        13 => true,
-        15 => true,
-        19 => true,
-        _ => false,
-    }
+    matches!(order, 7 | 9 | 13 | 15 | 19)
 }
 
 // How many triples an order has.
+#[tactic(auto, using(crate::proofs::Orders::small), unfolding(crate::specs::System::cols))]
 pub fn cols(order: usize) -> usize
     requires { is_order order ≡ true }
     ensures { result ≡ cols order }
@@ -34,6 +29,7 @@ pub fn cols(order: usize) -> usize
 }
 
 // Where the triples of an order begin in the list.
+#[tactic(auto, unfolding(crate::specs::System::start, crate::specs::System::start_among, crate::specs::System::cols, crate::specs::System::is_order, graph::specs::Count::member))]
 fn start(order: usize) -> usize
     requires { is_order order ≡ true }
     ensures { result ≡ start order }
@@ -48,6 +44,7 @@ fn start(order: usize) -> usize
 }
 
 // The triple in column j.
+#[tactic(auto, using(crate::proofs::Orders::small), unfolding(crate::specs::System::triple_at))]
 pub fn triple_at(order: usize, j: usize) -> Triple
     requires { (is_order order ≡ true) × (j < cols order) }
     ensures { result ≡ triple_at order j }
@@ -60,29 +57,26 @@ pub fn triple_at(order: usize, j: usize) -> Triple
     }
 }
 
-// Which point of a triple i is, or 3 where it is none.
-pub fn place_in(t: Triple, i: usize) -> usize
+// Which point of a triple i is, if it is one.
+pub fn place_in(t: Triple, i: usize) -> Option<usize>
     ensures { result ≡ place_in t i }
 {
     if i == t.a {
-        return 0;
+        Some(0)
+    } else if i == t.b {
+        Some(1)
+    } else if i == t.c {
+        Some(2)
+    } else {
+        None
     }
-    if i == t.b {
-        return 1;
-    }
-    if i == t.c {
-        return 2;
-    }
-    3
 }
 
 // Whether the order is one of the five and its plan would have more than 65,536 bits.
+#[tactic(auto, using(crate::proofs::Orders::small))]
 pub fn too_long(order: usize, lift: usize) -> bool
     requires { lift ≤ 4096 }
     ensures { result ≡ too_long order lift }
 {
-    if is_order(order) {
-        return 65536 < cols(order) * lift;
-    }
-    false
+    is_order(order) && 65536 < cols(order) * lift
 }

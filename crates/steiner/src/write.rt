@@ -6,17 +6,19 @@ use crate::system;
 use square::signed;
 
 // The entry of point i and triple j.
+#[tactic(auto, unfolding(crate::specs::Build::entry))]
 fn entry(order: usize, lift: usize, voltages: &[i16], i: usize, j: usize) -> i16
     requires { Ready order lift voltages.now × (j < cols order) }
     ensures { result ≡ entry order lift voltages.now i j }
 {
     let t = system::triple_at(order, j);
-    let k = system::place_in(t, i);
-    if k < 3 {
-        let s = signed::read(voltages, 3 * j + k);
-        return signed::make(true, signed::natural(s) % lift);
+    match system::place_in(t, i) {
+        Some(k) => {
+            let voltage = signed::entry(voltages[3 * j + k]).unwrap_or(0);
+            signed::make(true, voltage % lift)
+        }
+        None => signed::make(false, 0),
     }
-    signed::make(false, 0)
 }
 
 // Writes the plan, row by row.
@@ -25,8 +27,7 @@ pub fn fill(order: usize, lift: usize, voltages: &[i16], plan: &mut [i16])
     ensures { plan.new ≡ steiner_plan order lift voltages.now }
 {
     let cols = system::cols(order);
-    let end = order * cols;
-    for n in 0..end {
+    for n in 0..order * cols {
         plan[n] = entry(order, lift, voltages, n / cols, n % cols);
     }
 }

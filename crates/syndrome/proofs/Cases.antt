@@ -1,4 +1,6 @@
 -- Answers of the syndrome check to a few words, and the erasures of a list of any bytes, computed. Assumes nothing.
+use Rattle.std.specs.Prelude.{Option, None, Result, Ok, Err}
+use Rattle.refusal.specs.declared.Refusal.{Refusal}
 use Prim.Native.Nat.{ℕ}
 use mathlib.Core.Path.{◌≡◌, refl}
 use mathlib.Core.List.{List, [], ◌∷◌}
@@ -13,8 +15,6 @@ use Rattle.graph.specs.Filling.{erasures}
 use Rattle.exponent.specs.Plan.{entry_at, block_at}
 use Rattle.exponent.specs.Limits.{plan_rules}
 use Rattle.exponent.specs.Tanner.{tanner}
-use Rattle.syndrome.specs.declared.Syndrome.{Syndrome}
-use Rattle.syndrome.specs.declared.Syndrome.TheVariants.{Even, Refused}
 use Rattle.syndrome.specs.Word.{byte_rules, word_rules}
 use Rattle.syndrome.specs.Check.{check_rules, lowest_odd, syndrome_of}
 use Rattle.syndrome.specs.Lanes.{bytes_of}
@@ -22,17 +22,17 @@ use Rattle.syndrome.specs.Lanes.{bytes_of}
 -- a word for the one-row plan 0 1 at lift 2, whose checks join the bits 0 3 and 1 2
 pub record Case : Type 0 where
   pub word : List ℕ
-  pub answer : Syndrome
+  pub answer : Result (Option ℕ) Refusal
 
-abbrev given : List ℕ → Syndrome → Case
+abbrev given : List ℕ → Result (Option ℕ) Refusal → Case
 given word answer = record { word = word; answer = answer }
 
 abbrev pub cases : List Case
 cases =
-    given (1 ∷ 0 ∷ 0 ∷ 1 ∷ []) Even
-    ∷ given (1 ∷ 0 ∷ 0 ∷ 2 ∷ []) (Refused (Erasure 3))
-    ∷ given (1 ∷ 3 ∷ 2 ∷ 4 ∷ []) (Refused (Byte 1))
-    ∷ given (1 ∷ 3 ∷ 2 ∷ []) (Refused WordLength)
+    given (1 ∷ 0 ∷ 0 ∷ 1 ∷ []) (Ok None)
+    ∷ given (1 ∷ 0 ∷ 0 ∷ 2 ∷ []) (Err (Erasure 3))
+    ∷ given (1 ∷ 3 ∷ 2 ∷ 4 ∷ []) (Err (Byte 1))
+    ∷ given (1 ∷ 3 ∷ 2 ∷ []) (Err WordLength)
     ∷ []
 
 abbrev Hold : List Case → Type 0

@@ -1,10 +1,10 @@
 -- The erasures among the bytes of a number, found by arithmetic on all bytes at once. The law is stated over the number of bytes,
 -- so that a byte is met once. Assumes nothing.
-use Prim.Native.Nat.{ℕ, zero, suc, ◌+◌, ◌*◌, ◌/◌, ◌%◌, ◌^◌, ◌<◌, ◌≤◌}
-use mathlib.Core.Path.{◌≡◌, refl, sym, ap, ◌∙◌}
+use Prim.Native.Nat.{ℕ, zero, suc, ◌+◌, ◌*◌, ◌/◌, ◌%◌, ◌^◌, ◌<◌}
+use mathlib.Core.Path.{◌≡◌, refl, sym, ap, ap₂, ◌∙◌}
 use mathlib.Core.Bool.{Bool, true, false}
 use native.Mathlib.Omega.{arith}
-use native.Mathlib.Nat.{mod-lt, add-mul}
+use native.Mathlib.Nat.{mod-lt, add-mul, div-div-eq-div-mul, div-one, pow-suc}
 use borrow.Author.Tests.{eqb-true}
 use lib.Dec.{eqb, lit<}
 use lib.Pow.{pow_pos, split}
@@ -13,6 +13,11 @@ use lib.Count.{ones, ones_cat}
 use Rattle.graph.specs.Count.{one, count}
 use Rattle.graph.specs.Filling.{erasures}
 use Rattle.graph.proofs.Cases.{all_at}
+use Rattle.std.specs.Int.{byte_at, bytes_low_first, from_le_bytes}
+use Rattle.std.specs.Int.{w64}
+use Rattle.std.proofs.lemmas.Nat.{le_bytes_8}
+use lib.ListN.{length, get_or}
+use mathlib.Core.List.{List, ◌∷◌}
 use Rattle.syndrome.specs.Lanes.{bytes_of}
 
 -- the same byte n times
@@ -77,8 +82,20 @@ counted (suc n) x =
     ∙ ones_cat 8 (flags n rest) (one (eqb b 2) * 128) this.0
     ∙ omega (arith, this.1, counted n rest)
 
--- n bytes have at most n erasures
-pub few : (n x : ℕ) → erasures (bytes_of n x) ≤ n
-unfolding bytes_of erasures count
-few zero x = omega arith
-few (suc n) x = omega (arith, few n (x / 2 ^ 8), one_flag (eqb (x % 2 ^ 8) 2))
+-- the same bytes, as std has them, from byte i on
+byte : (i x : ℕ) → byte_at i x ≡ x / 256 ^ i % 256
+byte zero x = ap (λ (k : ℕ). k % 256) (sym (div-one x))
+byte (suc i) x = refl
+
+bytes_from : (n i x : ℕ) → bytes_of n (x / 256 ^ i) ≡ bytes_low_first i n x
+unfolding bytes_of
+bytes_from zero i x = refl
+bytes_from (suc n) i x =
+    ap₂ (λ (y : ℕ) (l : List ℕ). y ∷ l) (sym (byte i x))
+    (ap (bytes_of n) (div-div-eq-div-mul x (256 ^ i) 256 ∙ ap (λ (k : ℕ). x / k) (sym (pow-suc 256 i))) ∙ bytes_from n (suc i) x)
+
+-- eight bytes read as one number
+pub read : (eight : List ℕ) → length eight ≡ 8 → ((i : ℕ) → get_or eight i 0 < 256) → bytes_of 8 (from_le_bytes w64 eight) ≡ eight
+read eight h fits =
+    let x = from_le_bytes w64 eight in
+    ap (bytes_of 8) (sym (div-one x)) ∙ bytes_from 8 0 x ∙ le_bytes_8 eight x h fits refl

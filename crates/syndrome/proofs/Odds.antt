@@ -3,9 +3,10 @@ use Prim.Native.Nat.{ℕ, ◌*◌, ◌≤◌, ◌<◌}
 use mathlib.Core.Path.{◌≡◌, sym, ap, ◌∙◌}
 use mathlib.Core.Bool.{Bool, false}
 use mathlib.Core.List.{List}
+use Rattle.std.specs.Prelude.{None, Some}
 use native.Mathlib.Omega.{arith}
 use native.Mathlib.Nat.{zero-add, mul-le-mul}
-use borrow.Author.Tests.{eqb-true, eqb-false, eq-eqb, ne_eqb}
+use borrow.Author.Tests.{lt-ltb, le-ltb, eqb-true, eqb-false, eq-eqb, ne_eqb}
 use lib.Dec.{eqb}
 use lib.IntN.{ℤ}
 use lib.ListN.{get_or}
@@ -15,7 +16,7 @@ use Rattle.graph.specs.Graph.{Bipartite}
 use Rattle.graph.specs.Erasure.{parity}
 use Rattle.graph.proofs.Count.{length_range, get_or_range}
 use Rattle.exponent.specs.Limits.{WellFormed}
-use Rattle.syndrome.specs.Check.{lowest_odd}
+use Rattle.syndrome.specs.Check.{lowest_odd, found}
 
 pub few_checks : (plan : List ℤ) (rows cols lift : ℕ) → WellFormed plan rows cols lift → rows * lift ≤ 786432
 few_checks plan rows cols lift w = mul-le-mul w.few_rows w.small_lift
@@ -62,3 +63,10 @@ module _ (G : Bipartite) (word : List ℕ) where
   at_odd h =
       eqb-true (parity G word (lowest_odd G word)) 1
       (sym (at (lowest_odd G word) h) ∙ at_first odd 0 (below G.checks) (omega (arith, length_range 0 G.checks)))
+
+  -- the same of the check that is found
+  pub odd_found : (c : ℕ) → ((d : ℕ) → d < c → parity G word d ≡ 0) → c < G.checks → parity G word c ≡ 1 → found G.checks (lowest_odd G word) ≡ Some c
+  odd_found c before h e = rw (odd_at c before h e, lt-ltb c G.checks h)
+
+  pub none_found : ((c : ℕ) → c < G.checks → parity G word c ≡ 0) → found G.checks (lowest_odd G word) ≡ None
+  none_found all = rw (odd_none all, le-ltb G.checks G.checks (omega arith))

@@ -4,12 +4,12 @@ use mathlib.Core.Path.{◌≡◌, refl, sym, ap, subst, ◌∙◌}
 use mathlib.Core.Logic.{inl, inr}
 use mathlib.Core.Bool.{false}
 use mathlib.Core.List.{List, [], ◌∷◌, ◌++◌, append-nil}
-use mathlib.Core.Option.{Option, none}
+use Rattle.std.specs.Prelude.{Option, None}
 use native.Mathlib.Nat.{mod-lt, div-add-mod'}
 use native.Mathlib.Omega.{arith}
 use borrow.Author.Tests.{eq-eqb, ne_eqb}
 use lib.IntN.{ℤ}
-use lib.ListN.{length, get_or}
+use lib.ListN.{get_or}
 use Rattle.graph.specs.Count.{below, one, count, Mem}
 use Rattle.graph.specs.Graph.{bits_of}
 use Rattle.graph.specs.Erasure.{erased, total}
@@ -18,6 +18,7 @@ use Rattle.graph.proofs.Count.{count_append}
 use Rattle.exponent.specs.declared.block.Block.{Block}
 use Rattle.exponent.specs.declared.block.Block.TheVariants.{Zero, Shift, Invalid}
 use Rattle.exponent.specs.declared.Shape.{Shape}
+use Rattle.exponent.specs.declared.plan.Plan.{Plan}
 use Rattle.exponent.specs.Plan.{block_at, filled}
 use Rattle.exponent.specs.Tanner.{tanner}
 use Rattle.exponent.specs.Neighbours.{gather, bit_in}
@@ -26,7 +27,7 @@ use Rattle.exponent.proofs.Blocks.{gather_last, gather_skip}
 use Rattle.exponent.proofs.Tanner.{bits_of_check}
 use Rattle.index.specs.Index.{NextFrom, filled_at}
 use Rattle.syndrome.specs.declared.scan.Scan.{Scan}
-use Rattle.syndrome.specs.Scan.{Scanned, AddedBit, AddedBlock, Ready}
+use Rattle.syndrome.specs.Scan.{Scanned, AddedBit, AddedBlock}
 
 total_append : (w p q : List ℕ) → total w (p ++ q) ≡ total w p + total w q
 unfolding total
@@ -65,20 +66,25 @@ module _ (word bits : List ℕ) (s : Scan) (at : ℕ) (h : Scanned word bits s) 
 
 -- one block more: no bit where it is not filled, else the bit that it has
 
-pub no_bit : (lift y : ℕ) (b : Block) → filled b ≡ false → bit_in lift y b ≡ none
+pub no_bit : (lift y : ℕ) (b : Block) → filled b ≡ false → bit_in lift y b ≡ None
 no_bit lift y Zero e = refl
 no_bit lift y (Shift x) e = absurd (let z : ◌≡◌ {A = ℕ} 0 1 = cc in omega arith)
 no_bit lift y Invalid e = refl
 
+pub not_filled : (b : Block) → ((e : ℕ) → b ≡ Shift e → ⊥) → filled b ≡ false
+not_filled Zero n = refl
+not_filled (Shift e) n = absurd (n e refl)
+not_filled Invalid n = refl
+
 module _ (word : List ℕ) (b : Block) (lift y j : ℕ) (s : Scan) where
-  pub added_none : filled b ≡ false → AddedBlock word b lift y j s s
+  pub added_none : ((e : ℕ) → b ≡ Shift e → ⊥) → AddedBlock word b lift y j s s
   unfolding gather
-  added_none e =
+  added_none n =
       record {
         grown = omega arith;
         scanned = λ bits h.
             subst (λ (l : List ℕ). Scanned word l s)
-            (sym (ap (λ (o : Option ℕ). bits ++ gather lift (λ _. o) (j ∷ [])) (no_bit lift y b e) ∙ append-nil bits)) h;
+            (sym (ap (λ (o : Option ℕ). bits ++ gather lift (λ _. o) (j ∷ [])) (no_bit lift y b (not_filled b n)) ∙ append-nil bits)) h;
       }
 
   pub added_shift : (e : ℕ) (r : Scan) → b ≡ Shift e → AddedBit s (get_or word (j * lift + (y + e) % lift) 0) (j * lift + (y + e) % lift) r → AddedBlock word b lift y j s r
@@ -102,7 +108,7 @@ module _ (plan : List ℤ) (shape : Shape) (word : List ℕ) (s : Scan) where
   pub scanned_skip : (i y j col : ℕ) → NextFrom (filled_at plan shape i) j shape.cols col
       → Scanned word (row_bits plan shape i y j) s → Scanned word (row_bits plan shape i y col) s
   scanned_skip i y j col n =
-      let empty : (k : ℕ) → j ≤ k → k < col → pick plan shape i y k ≡ none =
+      let empty : (k : ℕ) → j ≤ k → k < col → pick plan shape i y k ≡ None =
       λ k p q. no_bit shape.lift y (block_at plan shape.cols shape.lift i k) (n.none_between k p q) in
       subst (λ (l : List ℕ). Scanned word l s) (sym (gather_skip shape.lift (pick plan shape i y) j col n.from_here empty))
 
@@ -124,14 +130,6 @@ module _ (plan : List ℤ) (shape : Shape) (word : List ℕ) (s : Scan) where
       ∙ sym (bits_of_check plan shape.rows shape.cols shape.lift h (c / shape.lift) (c % shape.lift) (mod-lt c h))
       ∙ ap (bits_of (tanner plan shape.rows shape.cols shape.lift)) (div-add-mod' c shape.lift))
 
--- a word that keeps its length may take the place of another
-pub ready_same : {plan : List ℤ} {shape : Shape} {along p q : List ℕ} → Ready plan shape along p → length q ≡ length p → Ready plan shape along q
-ready_same r e = record { formed = r.formed; indexed = r.indexed; whole = e ∙ r.whole }
-
--- the row of a check, and what the index says of it
-pub row_low : {plan : List ℤ} {shape : Shape} {along word : List ℕ} (c : ℕ) → Ready plan shape along word → c < shape.rows * shape.lift → c / shape.lift < shape.rows
-row_low c r h = block_low _ r.formed.some_lift _ _ h
-
-pub next_filled : {plan : List ℤ} {shape : Shape} {along word : List ℕ} {i j col : ℕ} → Ready plan shape along word → i < shape.rows → j < shape.cols
-    → col ≡ get_or along (i * shape.cols + j) 0 → NextFrom (filled_at plan shape i) j shape.cols col
-next_filled r h k e = subst (NextFrom _ _ _) (sym e) (r.indexed.next _ _ h k)
+-- the row of a check
+pub row_low : (p : Plan) (c : ℕ) → c < p.shape.rows * p.shape.lift → c / p.shape.lift < p.shape.rows
+row_low p c h = block_low _ p.well_formed.some_lift _ _ h

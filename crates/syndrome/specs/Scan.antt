@@ -1,13 +1,12 @@
 -- What a scan of a check's bits finds.
-use Rattle.std.specs.Prelude.{ℕ, ◌+◌, ◌*◌, ◌≤◌, ◌<◌, ◌≡◌, true, List, [], ◌∷◌, ◌++◌, ℤ, length, get_or}
+use Rattle.std.specs.Prelude.{ℕ, ◌+◌, ◌≤◌, ◌<◌, ◌≡◌, true, List, [], ◌∷◌, ◌++◌, length, get_or}
 use Rattle.graph.specs.Count.{count, Mem}
 use Rattle.graph.specs.Erasure.{erased, total}
 use Rattle.exponent.specs.declared.block.Block.{Block}
 use Rattle.exponent.specs.declared.block.Block.TheVariants.{Shift}
-use Rattle.exponent.specs.declared.Shape.{Shape}
-use Rattle.exponent.specs.Limits.{WellFormed}
 use Rattle.exponent.specs.Neighbours.{gather, bit_in}
-use Rattle.index.specs.Index.{AlongIndex}
+use Rattle.exponent.specs.declared.plan.Plan.{Plan}
+use Rattle.exponent.specs.Graphs.{bits_in}
 use Rattle.syndrome.specs.declared.scan.Scan.{Scan}
 
 -- how many of the bits are erasures, the sum of the bytes, and an erasure, if there is one
@@ -34,8 +33,6 @@ pub record AddedBlock (word : List ℕ) (b : Block) (lift y j : ℕ) (s r : Scan
 unfoldable pub Shifted : Block → ℕ → Type 0
 Shifted b lift = (e : ℕ) → b ≡ Shift e → e < lift
 
--- a valid plan with the index along its rows, and a word of its length
-pub record Ready (plan : List ℤ) (s : Shape) (along word : List ℕ) : Type 0 where
-  pub formed : WellFormed plan s.rows s.cols s.lift
-  pub indexed : AlongIndex plan s along
-  pub whole : length word ≡ s.cols * s.lift
+-- a word of the plan's length
+abbrev pub IsWord : Plan → List ℕ → Type 0
+IsWord p word = length word ≡ bits_in p

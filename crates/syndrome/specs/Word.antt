@@ -11,17 +11,18 @@ use Rattle.syndrome.specs.declared.byte.Symbol.TheVariants.{Known, Erased, Other
 abbrev pub symbol_of : ℕ → Symbol
 symbol_of x = cond (ltb x 2) Known (cond (eqb x 2) Erased Other)
 
--- the byte is an erasure, or, where it is not erasures that are sought, a byte that is turned away
-abbrev pub sought : Bool → Symbol → Bool
-sought erasures Known = false
-sought erasures Erased = erasures
-sought erasures Other = not erasures
+-- a byte of one kind is of another, or of the same
+abbrev pub is_kind : Symbol → Symbol → Bool
+is_kind Known Known = true
+is_kind Erased Erased = true
+is_kind Other Other = true
+is_kind a b = false
 
 abbrev pub is_erasure : ℕ → Bool
-is_erasure x = sought true (symbol_of x)
+is_erasure x = is_kind Erased (symbol_of x)
 
 abbrev pub is_other : ℕ → Bool
-is_other x = sought false (symbol_of x)
+is_other x = is_kind Other (symbol_of x)
 
 -- 16 where the word has not n bytes, 18 with the first place of a byte above 2
 unfoldable pub byte_rules : ℕ → List ℕ → List Rule

@@ -1,16 +1,15 @@
-ghost use Rattle.std.specs.Prelude.{◌≡◌, ◌%◌, length};
+ghost use Rattle.std.specs.Prelude.{◌≡◌, ◌<◌, ◌^◌, sum_by};
+ghost use Rattle.std.specs.List.{position};
+ghost use Rattle.refusal.specs.Answer.{ok_unless};
 ghost use Rattle.refusal.specs.Lowest.{lowest};
-ghost use Rattle.refusal.specs.Place.{first_place};
 ghost use Rattle.graph.specs.Filling.{erasures};
-ghost use Rattle.exponent.specs.Limits.{validity};
-ghost use Rattle.syndrome.specs.Word.{symbol_of, sought, byte_rules};
+ghost use Rattle.syndrome.specs.Word.{symbol_of, is_kind, byte_rules};
 
 use super::lanes;
-use exponent::Validity;
 use refusal::Refusal;
 
 // A byte of a word (document 01: frame byte).
-#[derive(Clone, Copy)]
+#[derive(Clone, Copy, Debug, PartialEq, Eq)]
 pub enum Symbol {
     Known,
     Erased,
@@ -28,80 +27,48 @@ pub fn sort(x: u8) -> Symbol
     }
 }
 
-// Whether a byte is sought: an erasure, or a byte that is refused.
-fn is_sought(erasures: bool, s: Symbol) -> bool
-    ensures { result ≡ sought erasures s }
+// The place of the first byte of a kind, if there is one.
+pub fn first(kind: Symbol, word: &[u8]) -> Option<usize>
+    ensures { result ≡ position (λ x. is_kind kind (symbol_of x)) word.now }
 {
-    match s {
-        Symbol::Known => false,
-        Symbol::Erased => erasures,
-        Symbol::Other => !erasures,
-    }
-}
-
-// The place of the first byte sought, or the length.
-pub fn first(erasures: bool, word: &[u8]) -> usize
-    ensures { result ≡ first_place (λ x. sought erasures (symbol_of x)) word.now }
-{
-    let mut place = 0;
-    while place < word.len() {
-        let x = word[place];
-        if is_sought(erasures, sort(x)) {
-            return place;
-        }
-        place += 1;
-    }
-    place
+    word.iter().position(|&x| kind == sort(x))
 }
 
 // How many bytes are erasures, by one byte after the other.
+#[tactic(auto, using(crate::proofs::Symbols::erasures_counted))]
 fn count_bytes(word: &[u8]) -> usize
     ensures { result ≡ erasures word.now }
 {
-    let mut n = 0;
-    let mut place = 0;
-    while place < word.len() {
-        if word[place] == 2 {
-            n += 1;
-        }
-        place += 1;
-    }
-    n
+    word.iter().filter(|&&x| x == 2).count()
 }
 
-// The same by eight bytes at a time.
-fn count_eights(word: &[u8]) -> usize
-    requires { length word.now % 8 ≡ 0 }
-    ensures { result ≡ erasures word.now }
+// The same of bytes that come in eights.
+fn count_eights(eights: &[[u8; 8]]) -> usize
+    requires { sum_by erasures eights.now < 2 ^ 64 }
+    ensures { result ≡ sum_by erasures eights.now }
 {
-    let mut n = 0;
-    let mut place = 0;
-    while place < word.len() {
-        let end = place + 8;
-        n += lanes::count(lanes::load(&word[place..end]));
-        place = end;
-    }
-    n
+    eights.iter().map(lanes::count).sum()
 }
 
 // How many bytes are erasures, for any list of bytes: the last few by themselves.
+#[tactic(auto, using(crate::proofs::Symbols::erasures_chunked, crate::proofs::Symbols::erasures_le))]
 pub fn count_erasures(word: &[u8]) -> usize
     ensures { result ≡ erasures word.now }
 {
-    let whole = word.len() - word.len() % 8;
-    count_eights(&word[..whole]) + count_bytes(&word[whole..])
+    let (eights, rest) = word.as_chunks::<8>();
+    count_eights(eights) + count_bytes(rest)
 }
 
 // Judges the bytes of a word that is to have n of them: refusals 16 and 18.
-pub fn validate_bytes(word: &[u8], n: usize) -> Validity
-    ensures { result ≡ validity (lowest (byte_rules n word.now)) }
+#[tactic(auto, using(refusal::proofs::Place::position_some, refusal::proofs::Place::position_none), unfolding(crate::specs::Word::byte_rules, refusal::specs::Lowest::lowest))]
+pub fn validate_bytes(word: &[u8], n: usize) -> Result<(), Refusal>
+    ensures { result ≡ ok_unless (lowest (byte_rules n word.now)) }
 {
     if word.len() != n {
-        return Validity::Refused(Refusal::WordLength);
+        return Err(Refusal::WordLength);
     }
-    let place = first(false, word);
-    if place < word.len() {
-        return Validity::Refused(Refusal::Byte(place));
+    match first(Symbol::Other, word) {
+        Some(place) => Err(Refusal::Byte(place)),
+        None => Ok(()),
     }
-    Validity::Valid
 }

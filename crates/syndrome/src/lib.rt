@@ -1,11 +1,12 @@
 // The syndrome check of a word (document 01: frame check), and what it shares with the decoder: a word's bytes and a check's bits.
 #![tactic(auto)]
 
-ghost use Rattle.std.specs.Prelude.{◌≡◌, ◌*◌, length};
+ghost use Rattle.std.specs.Prelude.{◌≡◌, ◌*◌, length, IfOk};
+ghost use Rattle.std.specs.Result.{result_err};
 ghost use Rattle.refusal.specs.Lowest.{lowest};
-ghost use Rattle.exponent.specs.Limits.{WellFormed, validity};
-ghost use Rattle.exponent.specs.Tanner.{tanner};
-ghost use Rattle.syndrome.specs.Scan.{Ready};
+ghost use Rattle.exponent.specs.Plan.{shape_of};
+ghost use Rattle.exponent.specs.Graphs.{graph, checks_of};
+ghost use Rattle.syndrome.specs.Scan.{IsWord};
 ghost use Rattle.syndrome.specs.Word.{word_rules};
 ghost use Rattle.syndrome.specs.Check.{check_rules, syndrome_of, lowest_odd, found};
 
@@ -13,82 +14,83 @@ pub mod byte; // byte.rt: what a byte of a word says
 mod lanes; // lanes.rt: eight bytes as one number
 pub mod scan; // scan.rt: the bits of one check
 
-use exponent::{Shape, Validity};
+use byte::Symbol;
+use exponent::plan::Plan;
+use index::rows::Rows;
 use refusal::Refusal;
 
-// The answer: every check is even, or the lowest odd one.
-#[derive(Clone, Copy)]
-pub enum Syndrome {
-    Even,
-    Odd(usize),
-    Refused(Refusal),
-}
-
-// Judges a plan and a word for it: valid, or the lowest of refusals 1 to 6, 16 and 18 that applies.
-pub fn validate_word(plan: &[i16], rows: usize, cols: usize, lift: usize, word: &[u8]) -> Validity
-    ensures { result ≡ validity (lowest (word_rules plan.now rows cols lift word.now)) }
+// The plan, where it and a word for it are valid, or the lowest of refusals 1 to 6, 16 and 18 that applies.
+#[tactic(auto, using(refusal::proofs::Lowest::lowest_refused, refusal::proofs::Lowest::lowest_accepted, crate::proofs::Rules::long), unfolding(crate::specs::Word::word_rules))]
+pub fn validate_word<'a>(
+    plan: &'a [i16],
+    rows: usize,
+    cols: usize,
+    lift: usize,
+    word: &[u8],
+) -> Result<Plan<'a>, Refusal>
+    ensures refusal { result_err result ≡ lowest (word_rules plan.entry.now rows cols lift word.now) }
+    ensures plan { IfOk result (λ p. (p.entries ≡ plan.entry) × (p.shape ≡ shape_of rows cols lift) × (length word.now ≡ cols * lift)) }
 {
-    let validity = exponent::validate(plan, rows, cols, lift);
-    match validity {
-        Validity::Refused(x) => Validity::Refused(x),
-        Validity::Valid => byte::validate_bytes(word, cols * lift),
-    }
+    let plan = Plan::new(plan, rows, cols, lift)?;
+    byte::validate_bytes(word, cols * lift)?;
+    Ok(plan)
 }
 
 // The same for a word that is to have no erasure: refusal 19 besides.
-pub fn validate_known(plan: &[i16], rows: usize, cols: usize, lift: usize, word: &[u8]) -> Validity
-    ensures { result ≡ validity (lowest (check_rules plan.now rows cols lift word.now)) }
+#[tactic(auto, using(refusal::proofs::Place::position_some, refusal::proofs::Place::position_none, refusal::proofs::Lowest::lowest_refused, refusal::proofs::Lowest::lowest_accepted, std::proofs::lemmas::Result::err_from_is_err_and), unfolding(crate::specs::Check::check_rules, refusal::specs::Lowest::lowest))]
+pub fn validate_known<'a>(
+    plan: &'a [i16],
+    rows: usize,
+    cols: usize,
+    lift: usize,
+    word: &[u8],
+) -> Result<Plan<'a>, Refusal>
+    ensures refusal { result_err result ≡ lowest (check_rules plan.entry.now rows cols lift word.now) }
+    ensures plan { IfOk result (λ p. (p.entries ≡ plan.entry) × (p.shape ≡ shape_of rows cols lift) × (length word.now ≡ cols * lift)) }
 {
-    match validate_word(plan, rows, cols, lift, word) {
-        Validity::Refused(x) => Validity::Refused(x),
-        Validity::Valid => {
-            let place = byte::first(true, word);
-            if place < word.len() {
-                return Validity::Refused(Refusal::Erasure(place));
-            }
-            Validity::Valid
-        }
+    let plan = validate_word(plan, rows, cols, lift, word)?;
+    match byte::first(Symbol::Erased, word) {
+        Some(place) => Err(Refusal::Erasure(place)),
+        None => Ok(plan),
     }
 }
 
-// The lowest odd check of a word without erasures, or the number of checks.
-fn lowest_odd(plan: &[i16], along: &[u16], shape: Shape, word: &[u8]) -> usize
-    requires { Ready plan.now shape along.now word.now }
-    ensures { result ≡ lowest_odd (tanner plan.now shape.rows shape.cols shape.lift) word.now }
+// The lowest odd check of a word without erasures, if there is one.
+#[tactic(auto, using(crate::proofs::Odds::odd_found), unfolding(graph::specs::Erasure::parity, exponent::specs::Tanner::tanner))]
+fn lowest_odd(rows: &Rows, word: &[u8]) -> Option<usize>
+    requires { IsWord rows.now.plan word.now }
+    ensures { result ≡ found (checks_of rows.now.plan) (lowest_odd (graph rows.now.plan) word.now) }
 {
-    let checks = shape.rows * shape.lift;
-    let mut c = 0;
-    while c < checks {
-        let s = scan::scan_check(plan, along, shape, c, word);
-        let odd = s.sum % 2;
-        if odd == 1 {
-            return c;
+    let shape = rows.plan.shape;
+    for c in 0..shape.rows * shape.lift {
+        if scan::scan_check(rows, c, word).sum % 2 == 1 {
+            return Some(c);
         }
-        c += 1;
     }
-    c
+    None
 }
 
-// The syndrome of a valid word without erasures.
-fn check_valid(plan: &[i16], shape: Shape, word: &[u8]) -> Syndrome
-    requires { WellFormed plan.now shape.rows shape.cols shape.lift × (length word.now ≡ shape.cols * shape.lift) }
-    ensures { result ≡ found (shape.rows * shape.lift) (lowest_odd (tanner plan.now shape.rows shape.cols shape.lift) word.now) }
+// The lowest odd check of a valid word without erasures, if there is one.
+fn check_valid(plan: &Plan, word: &[u8]) -> Option<usize>
+    requires { IsWord plan.now word.now }
+    ensures { result ≡ found (checks_of plan.now) (lowest_odd (graph plan.now) word.now) }
 {
     let mut along = [0u16; index::PLACES];
-    index::build_along(plan, shape, &mut along);
-    let c = lowest_odd(plan, &along, shape, word);
-    if c < shape.rows * shape.lift {
-        return Syndrome::Odd(c);
-    }
-    Syndrome::Even
+    let rows = Rows::new(*plan, &mut along);
+    lowest_odd(&rows, word)
 }
 
 // Checks a word: all checks even, or the lowest odd one.
-pub fn check(plan: &[i16], rows: usize, cols: usize, lift: usize, word: &[u8]) -> Syndrome
+#[tactic(auto, unfolding(crate::specs::Check::syndrome_of))]
+pub fn check(
+    plan: &[i16],
+    rows: usize,
+    cols: usize,
+    lift: usize,
+    word: &[u8],
+) -> Result<Option<usize>, Refusal>
     ensures { result ≡ syndrome_of plan.now rows cols lift word.now }
 {
-    match validate_known(plan, rows, cols, lift, word) {
-        Validity::Refused(x) => Syndrome::Refused(x),
-        Validity::Valid => check_valid(plan, Shape { rows, cols, lift }, word),
-    }
+    let plan = validate_known(plan, rows, cols, lift, word)?;
+    Ok(check_valid(&plan, word))
 }

@@ -1,78 +1,73 @@
 ghost use Rattle.std.specs.Prelude.{◌+◌, ◌*◌, ◌<◌, ◌≤◌, length};
 ghost use Rattle.graph.specs.Graph.{bits_of};
-ghost use Rattle.exponent.specs.Tanner.{tanner};
-ghost use Rattle.syndrome.specs.Scan.{Scanned, Ready, AddedBit, AddedBlock, Shifted};
+ghost use Rattle.exponent.specs.Graphs.{graph, checks_of};
+ghost use Rattle.syndrome.specs.Scan.{Scanned, IsWord, AddedBit, AddedBlock, Shifted};
 
 use exponent::block::Block;
-use exponent::{Shape, block, position};
+use exponent::position;
+use index::rows::Rows;
 
 // What a scan of a check's bits found: how many are erasures, the sum of the bytes, and an erasure, if there is one.
-#[derive(Clone, Copy)]
+// Stays: `erased` says whether there is one; an Option in place of `at` would say it twice.
+#[derive(Clone, Copy, Debug, PartialEq, Eq)]
 pub struct Scan {
     pub erased: usize,
     pub sum: usize,
     pub at: usize,
 }
 
-// The scan with the byte x of bit `at` more.
-fn add_bit(s: Scan, x: u8, at: usize) -> Scan
-    requires { (s.erased < 65536) × (s.sum < 65536 * 256) }
-    ensures { AddedBit s x at result }
-{
-    let erased = s.erased;
-    let sum = s.sum;
-    if x == 2 {
-        Scan {
-            erased: erased + 1,
-            sum: sum + 2,
-            at,
-        }
-    } else {
-        Scan {
-            erased,
-            sum: sum + x as usize,
-            at: s.at,
+impl Scan {
+    // The scan with the byte x of bit `at` more.
+    fn add_bit(self, x: u8, at: usize) -> Scan
+        requires { (self.erased < 65536) × (self.sum < 65536 * 256) }
+        ensures { AddedBit self x at result }
+    {
+        if x == 2 {
+            Scan {
+                erased: self.erased + 1,
+                sum: self.sum + 2,
+                at,
+            }
+        } else {
+            Scan {
+                sum: self.sum + x as usize,
+                ..self
+            }
         }
     }
-}
 
-// The scan with the bit more that row y of block b in column j joins.
-fn add_block(b: Block, lift: usize, y: usize, j: usize, word: &[u8], s: Scan) -> Scan
-    requires { Shifted b lift × (y < lift) × (lift ≤ 4096) × (j * lift + lift ≤ length word.now) × (s.erased < 65536) × (s.sum < 65536 * 256) }
-    ensures { AddedBlock word.now b lift y j s result }
-{
-    match b {
-        Block::Zero => s,
-        Block::Invalid => s,
-        Block::Shift(e) => {
+    // The scan with the bit more that row y of block b in column j joins.
+    #[tactic(auto, unfolding(crate::specs::Scan::Shifted))]
+    fn add_block(self, b: Block, lift: usize, y: usize, j: usize, word: &[u8]) -> Scan
+        requires { Shifted b lift × (y < lift) × (lift ≤ 4096) × (j * lift + lift ≤ length word.now) × (self.erased < 65536) × (self.sum < 65536 * 256) }
+        ensures { AddedBlock word.now b lift y j self result }
+    {
+        if let Block::Shift(e) = b {
             let at = j * lift + position::wrap(y + e, lift);
-            add_bit(s, word[at], at)
+            self.add_bit(word[at], at)
+        } else {
+            self
         }
     }
 }
 
 // What the bits of check c hold, over the filled blocks of its row.
-pub fn scan_check(plan: &[i16], along: &[u16], shape: Shape, c: usize, word: &[u8]) -> Scan
-    requires { Ready plan.now shape along.now word.now × (c < shape.rows * shape.lift) }
-    ensures { Scanned word.now (bits_of (tanner plan.now shape.rows shape.cols shape.lift) c) result }
+pub fn scan_check(rows: &Rows, c: usize, word: &[u8]) -> Scan
+    requires { IsWord rows.now.plan word.now × (c < checks_of rows.now.plan) }
+    ensures { Scanned word.now (bits_of (graph rows.now.plan) c) result }
 {
-    let i = c / shape.lift;
-    let y = c % shape.lift;
-    let cols = shape.cols;
+    let lift = rows.plan.shape.lift;
+    let i = c / lift;
+    let y = c % lift;
     let mut s = Scan {
         erased: 0,
         sum: 0,
         at: 0,
     };
-    let mut j = 0;
-    while j < cols {
-        let col = index::next(along, cols, i, j);
-        if cols <= col {
-            return s;
-        }
-        let b = block::block_at(plan, cols, shape.lift, i, col);
-        s = add_block(b, shape.lift, y, col, word, s);
-        j = col + 1;
+    let mut from = 0;
+    while let Some(j) = rows.next(i, from) {
+        s = s.add_block(rows.plan.block_at(i, j), lift, y, j, word);
+        from = j + 1;
     }
     s
 }

@@ -2,7 +2,7 @@
 use Prim.Native.Nat.{ℕ, ◌*◌}
 use mathlib.Core.Path.{◌≡◌, refl}
 use mathlib.Core.List.{List, [], ◌∷◌}
-use mathlib.Core.Option.{Option, none, some}
+use Rattle.std.specs.Prelude.{Option, None, Some}
 use lib.IntN.{ℤ, pos, negsuc}
 use lib.ListN.{drop}
 use Rattle.refusal.specs.declared.Refusal.{Refusal}
@@ -45,25 +45,25 @@ case order lift table mask room answer = record { order = order; lift = lift; ta
 -- each refusal, and the last values that are taken; the lowest number where several apply
 abbrev pub cases : List Case
 cases =
-    case 4 0 four (full 4) fitting (some Lift)
-    ∷ case 4 4097 four (full 4) fitting (some Lift)
-    ∷ case 3 7 four (full 4) fitting (some Order)
-    ∷ case 8 7 four (full 4) fitting (some Order)
-    ∷ case 5 7 four (full 4) fitting (some TableLength)
-    ∷ case 4 7 (pos 0 ∷ negsuc 0 ∷ drop 2 four) (full 4) fitting (some (NegativeEntry 1))
-    ∷ case 4 7 four (1 ∷ full 4) fitting (some MaskByte)
-    ∷ case 4 7 four (2 ∷ drop 1 (full 4)) fitting (some MaskByte)
-    ∷ case 4 7 four (0 ∷ drop 1 (full 4)) fitting (some MaskWeight)
-    ∷ case 4 1024 four (full 4) fitting none
-    ∷ case 4 1025 four (full 4) fitting (some TableBits)
-    ∷ case 4 7 four (full 4) (long 3071 48 64) (some PlanPlace)
-    ∷ case 4 7 four (full 4) (long 3071 0 0) (some PlanPlace)
-    ∷ case 4 7 four (full 4) (long 3072 47 64) (some Weights)
-    ∷ case 4 7 four (full 4) (long 3072 48 65) (some Weights)
-    ∷ case 4 7 four (full 4) (long 3072 64 48) (some Weights)
-    ∷ case 4 7 four (full 4) (long 3072 0 0) (some Weights)
-    ∷ case 4 0 [] [] (long 0 0 0) (some Lift)
-    ∷ case 4 6 four [] (long 0 0 0) (some (Unsound 0 2 1 3))
+    case 4 0 four (full 4) fitting (Some Lift)
+    ∷ case 4 4097 four (full 4) fitting (Some Lift)
+    ∷ case 3 7 four (full 4) fitting (Some Order)
+    ∷ case 8 7 four (full 4) fitting (Some Order)
+    ∷ case 5 7 four (full 4) fitting (Some TableLength)
+    ∷ case 4 7 (pos 0 ∷ negsuc 0 ∷ drop 2 four) (full 4) fitting (Some (NegativeEntry 1))
+    ∷ case 4 7 four (1 ∷ full 4) fitting (Some MaskByte)
+    ∷ case 4 7 four (2 ∷ drop 1 (full 4)) fitting (Some MaskByte)
+    ∷ case 4 7 four (0 ∷ drop 1 (full 4)) fitting (Some MaskWeight)
+    ∷ case 4 1024 four (full 4) fitting None
+    ∷ case 4 1025 four (full 4) fitting (Some TableBits)
+    ∷ case 4 7 four (full 4) (long 3071 48 64) (Some PlanPlace)
+    ∷ case 4 7 four (full 4) (long 3071 0 0) (Some PlanPlace)
+    ∷ case 4 7 four (full 4) (long 3072 47 64) (Some Weights)
+    ∷ case 4 7 four (full 4) (long 3072 48 65) (Some Weights)
+    ∷ case 4 7 four (full 4) (long 3072 64 48) (Some Weights)
+    ∷ case 4 7 four (full 4) (long 3072 0 0) (Some Weights)
+    ∷ case 4 0 [] [] (long 0 0 0) (Some Lift)
+    ∷ case 4 6 four [] (long 0 0 0) (Some (Unsound 0 2 1 3))
     ∷ []
 
 abbrev Hold : List Case → Type 0

@@ -3,7 +3,7 @@ use Prim.Native.Nat.{ℕ, ◌*◌, ◌/◌, ◌%◌, ◌<◌, ◌≤◌}
 use mathlib.Core.Path.{◌≡◌, refl, sym, ap, ◌∙◌}
 use mathlib.Core.Bool.{true, false}
 use mathlib.Core.List.{List}
-use mathlib.Core.Option.{none}
+use Rattle.std.specs.Prelude.{None}
 use native.Mathlib.Nat.{mod-lt, div-add-mod', div-lt_iff_lt-mul, mul-le-mul}
 use native.Mathlib.Omega.{arith}
 use lib.IntN.{ℤ, pos}
@@ -101,14 +101,14 @@ module _ (J L P : ℕ) (s : ℕ → ℕ → ℕ) (bytes : List ℕ) (p : 0 < P) 
 -- what is promised of a plan with L filled blocks in each row
 pub record GoodPlan (plan : List ℤ) (rows cols lift L : ℕ) : Type 0 where
   pub is_well_formed : WellFormed plan rows cols lift
-  pub accepted_by_1_to_6 : lowest (plan_rules plan rows cols lift) ≡ none
+  pub accepted_by_1_to_6 : lowest (plan_rules plan rows cols lift) ≡ None
   pub three_in_columns : (j : ℕ) → j < cols → column_weight plan rows cols lift j ≡ 3
   pub weight_in_rows : (i : ℕ) → i < rows → row_weight plan cols lift i ≡ L
   pub three_blocks : ThreeBlocks plan rows cols lift
   pub passes : Passes (tanner plan rows cols lift) 12
 
 -- THE THEOREM: every plan that `build` builds
-pub built_is_good : (order lift : ℕ) (table : List ℤ) (mask : List ℕ) (room : Room) → lowest (build_rules order lift table mask room) ≡ none
+pub built_is_good : (order lift : ℕ) (table : List ℤ) (mask : List ℕ) (room : Room) → lowest (build_rules order lift table mask room) ≡ None
     → GoodPlan (built_plan order lift table mask) (plan_rows order (weight order mask)) (plan_cols order (weight order mask)) lift (weight order mask)
 unfolding built_plan ThreeBlocks
 built_is_good order lift table mask room e =

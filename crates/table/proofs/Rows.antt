@@ -1,5 +1,5 @@
--- The entries of one column, and of one row of a part. Assumes nothing.
-use Prim.Native.Nat.{ℕ, ◌+◌, ◌/◌, ◌%◌}
+-- The entries of one column. Assumes nothing.
+use Prim.Native.Nat.{ℕ, ◌+◌}
 use mathlib.Core.Path.{◌≡◌, ap}
 use mathlib.Core.Bool.{Bool, true, false}
 use mathlib.Core.List.{List, [], ◌∷◌}
@@ -10,13 +10,11 @@ use Rattle.writing.proofs.Wrote.{wrote_none, wrote_one}
 use Rattle.square.specs.Each.{upon}
 use Rattle.square.specs.Table.{table_at}
 use Rattle.square.specs.Mask.{mask_at}
-use Rattle.grid.specs.declared.Part.{Part}
 use Rattle.grid.specs.declared.Row.{Row}
 use Rattle.grid.specs.declared.Column.{Column}
-use Rattle.grid.specs.Plan.{row_of, entry}
-use Rattle.grid.specs.Inner.{keeps}
+use Rattle.grid.specs.Plan.{entry}
 use Rattle.table.specs.declared.write.Size.{Size}
-use Rattle.table.specs.Write.{cell, cells, line}
+use Rattle.table.specs.Write.{cell}
 
 -- the entries of one column
 module _ (size : Size) (table : List ℤ) (mask : List ℕ) (w : Row) (q : Column) where
@@ -33,10 +31,3 @@ module _ (size : Size) (table : List ℤ) (mask : List ℕ) (w : Row) (q : Colum
 
   pub cell_skipped : (plan : List ℤ) (at : ℕ) → mask_at size.order mask q.j q.r ≡ false → Wrote plan at (cell size table mask w q) at plan
   cell_skipped plan at h = rw (cell_is false h) (wrote_none plan at)
-
--- the entries of one row of a part
-pub line_is : (size : Size) (table : List ℤ) (mask : List ℕ) (part : Part) (n : ℕ) (b : Bool)
-    → keeps part (mask_at size.order mask (n / size.order) (n % size.order)) ≡ b
-    → line size table mask part n ≡ upon b (cells size table mask (row_of part (n / size.order) (n % size.order)))
-unfolding line
-line_is size table mask part n b e = ap (λ (b : Bool). upon b (cells size table mask (row_of part (n / size.order) (n % size.order)))) e

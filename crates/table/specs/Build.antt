@@ -1,7 +1,7 @@
 -- The answers of the calls (document 01, "Turned away", and document 02, slip 7): the refusals in rising order of number, and what the
 -- lent memory then holds.
 use Rattle.std.specs.Prelude.{ℕ, ◌*◌, not, ◌||◌, List, [], ◌∷◌, ◌++◌, ltb, eqb, ℤ, length}
-use Rattle.std.proofs.Math.Option.{Option, none, some}
+use Rattle.std.specs.Prelude.{Option}
 use Rattle.refusal.specs.declared.Refusal.{Refusal}
 use Rattle.refusal.specs.declared.Refusal.TheVariants.{Lift, Order, TableLength, NegativeEntry, Unsound, MaskByte, MaskWeight, TableBits, PlanPlace}
 use Rattle.refusal.specs.Lowest.{Rule, refuse, lowest}
@@ -15,20 +15,10 @@ use Rattle.square.specs.declared.search.Quad.{Quad}
 use Rattle.square.specs.Table.{table_at, negative, unsound, first_repeat}
 use Rattle.square.specs.Mask.{mask_at, common, weight}
 use Rattle.grid.specs.Plan.{plan_rows, plan_cols, table_plan}
-use Rattle.table.specs.declared.Supplied.{Supplied as SuppliedAnswer}
-use Rattle.table.specs.declared.Supplied.TheVariants.{Supplied, Refused as NotSupplied}
-use Rattle.table.specs.declared.Built.{Built as BuiltAnswer}
-use Rattle.table.specs.declared.Built.TheVariants.{Built, Refused as NotBuilt}
-use Rattle.table.specs.declared.judge.Verdict.{Verdict}
-use Rattle.table.specs.declared.judge.Verdict.TheVariants.{Accepted, Refused}
 
 -- SUPPLIED TABLES. The order is 4 to 7, the place order² long.
 unfoldable pub supply_rules : ℕ → ℕ → List Rule
 supply_rules order room = refuse Order (outside 4 7 order) ∷ refuse TableLength (not (eqb room (order * order))) ∷ []
-
-abbrev pub supplied : Option Refusal → SuppliedAnswer
-supplied none = Supplied
-supplied (some r) = NotSupplied r
 
 -- TABLE PLANS. The lift, the table's order, length, entries and soundness;
 abbrev pub unsound_at : Quad → Refusal
@@ -57,11 +47,6 @@ mask_rules order lift mask room =
 unfoldable pub build_rules : ℕ → ℕ → List ℤ → List ℕ → Room → List Rule
 build_rules order lift table mask room = table_rules order lift table ++ mask_rules order lift mask room
 
--- the judge's answer, with the weight of the mask
-abbrev pub verdict : Option Refusal → ℕ → Verdict
-verdict none L = Accepted L
-verdict (some r) L = Refused r
-
 -- the plan that is built where nothing is refused, and its sizes
 unfoldable pub built_plan : ℕ → ℕ → List ℤ → List ℕ → List ℤ
 built_plan order lift table mask = table_plan order (weight order mask) lift (table_at order table) (mask_at order mask)
@@ -75,7 +60,3 @@ build_refusal order lift table mask h = lowest (build_rules order lift table mas
 
 abbrev pub after_build : ℕ → ℕ → List ℤ → List ℕ → Held → Held
 after_build order lift table mask h = lent (build_refusal order lift table mask h) (with_weights (built_plan order lift table mask) (built_shape order lift mask)) h
-
-abbrev pub built : Option Refusal → ℕ → ℕ → BuiltAnswer
-built none order L = Built (plan_rows order L) (plan_cols order L)
-built (some r) order L = NotBuilt r

@@ -6,7 +6,7 @@ ghost use Rattle.table.specs.Write.{Ready, cell, cells, line, lines, plan_of};
 use grid::{Column, Part, Row};
 
 // The numbers J, L and P of a plan.
-#[derive(Clone, Copy)]
+#[derive(Clone, Copy, Debug, PartialEq, Eq)]
 pub struct Size {
     pub order: usize,
     pub weight: usize,
@@ -14,6 +14,7 @@ pub struct Size {
 }
 
 // Writes the entry of row w in column q, if the mask has the column, and answers the next place.
+#[tactic(auto, using(crate::proofs::Rows::cell_is, crate::proofs::Rows::cell_written, crate::proofs::Rows::cell_skipped))]
 fn put_cell(
     table: &[i16],
     mask: &[u8],
@@ -26,25 +27,22 @@ fn put_cell(
     requires { Ready size table.now mask.now × Within size.order q × (at + length (cell size table.now mask.now w q) ≤ length plan.old) }
     ensures { Wrote plan.old at (cell size table.now mask.now w q) result plan.new }
 {
-    let order = size.order;
-    let j = q.j;
-    let r = q.r;
-    if mask[j * order + r] == 1 {
-        let e = grid::entry(table, order, size.lift, w, q);
-        plan[at] = e;
-        return at + 1;
+    if mask[q.j * size.order + q.r] == 1 {
+        plan[at] = grid::entry(table, size.order, size.lift, w, q);
+        at + 1
+    } else {
+        at
     }
-    at
 }
 
 // Writes the entries of row w.
+#[tactic(auto, unfolding(crate::specs::Write::cells))]
 fn put_row(table: &[i16], mask: &[u8], size: Size, w: Row, plan: &mut [i16], at: usize) -> usize
     requires { Ready size table.now mask.now × (at + length (cells size table.now mask.now w) ≤ length plan.old) }
     ensures { Wrote plan.old at (cells size table.now mask.now w) result plan.new }
 {
-    let end = size.weight * size.order * size.order;
     let mut to = at;
-    for n in 0..end {
+    for n in 0..size.weight * size.order * size.order {
         let q = grid::column_of(size.order, n);
         to = put_cell(table, mask, size, w, q, plan, to);
     }
@@ -52,6 +50,7 @@ fn put_row(table: &[i16], mask: &[u8], size: Size, w: Row, plan: &mut [i16], at:
 }
 
 // Writes the entries of row n of a part, if the part has it.
+#[tactic(auto, using(writing::proofs::Wrote::wrote_none), unfolding(crate::specs::Write::line))]
 fn put_line(
     table: &[i16],
     mask: &[u8],
@@ -64,21 +63,20 @@ fn put_line(
     requires { Ready size table.now mask.now × (n < size.order * size.order) × (at + length (line size table.now mask.now part n) ≤ length plan.old) }
     ensures { Wrote plan.old at (line size table.now mask.now part n) result plan.new }
 {
-    let order = size.order;
-    let u = n / order;
-    let v = n % order;
-    if grid::keeps(part, mask[u * order + v]) {
-        let w = Row {
-            part,
-            one: u,
-            two: v,
-        };
-        return put_row(table, mask, size, w, plan, at);
+    let w = Row {
+        part,
+        one: n / size.order,
+        two: n % size.order,
+    };
+    if grid::keeps(part, mask[w.one * size.order + w.two]) {
+        put_row(table, mask, size, w, plan, at)
+    } else {
+        at
     }
-    at
 }
 
 // Writes the entries of the first `count` rows of a part.
+#[tactic(auto, unfolding(crate::specs::Write::lines))]
 fn put_part(
     table: &[i16],
     mask: &[u8],

@@ -3,7 +3,7 @@ use Prim.Native.Nat.{ℕ}
 use Prim.Native.String.{String}
 use mathlib.Core.Path.{◌≡◌, refl}
 use mathlib.Core.List.{List, [], ◌∷◌, ◌++◌, map}
-use mathlib.Core.Option.{Option, none, some}
+use Rattle.std.specs.Prelude.{Option, None, Some}
 use Rattle.decimal.specs.Decimal.{digits, decimal}
 use Rattle.tokens.specs.declared.Form.{Form}
 use Rattle.tokens.specs.declared.Form.TheVariants.{Padded, Unpadded}
@@ -31,12 +31,12 @@ pair = "4 2\n1 2\n1 1 1 1\n2 2\n1\n2\n2\n1\n1 4\n"
 
 -- the padded form: right, with other blank bytes, with a leading zero, with one token more, ended early
 pub padded_held : AllHeld Padded (map numeral pair_numbers)
-    (held pair "2 3\n" none
-    ∷ held pair "\t2\r\n3" none
-    ∷ held pair "2 03\n" (some 34)
-    ∷ held pair "2 3\n 0" (some 37)
-    ∷ held pair "2 " (some 34)
-    ∷ held "" "" (some 0)
+    (held pair "2 3\n" None
+    ∷ held pair "\t2\r\n3" None
+    ∷ held pair "2 03\n" (Some 34)
+    ∷ held pair "2 3\n 0" (Some 37)
+    ∷ held pair "2 " (Some 34)
+    ∷ held "" "" (Some 0)
     ∷ [])
 unfolding mismatch blank between blanks token start token_at same decimal digits
 padded_held = (refl, (refl, (refl, (refl, (refl, (refl, tt))))))
@@ -68,13 +68,13 @@ short = "2 1\n1 1\n1 0\n1\n1\n"
 -- the unpadded form: right, with blanks before line feeds, without the last line feed, without the blank line, with one line feed
 -- more, with the list filled up, and with a line feed inside a line
 pub unpadded_held : AllHeld Unpadded short_items
-    (held short "\n1\n" none
-    ∷ held short " \r\n\t1\r\n " none
-    ∷ held short "\n1" (some 18)
-    ∷ held short "1\n" (some 16)
-    ∷ held short "\n1\n\n" (some 19)
-    ∷ held short "0\n1\n" (some 16)
-    ∷ held "2\n1" "" (some 1)
+    (held short "\n1\n" None
+    ∷ held short " \r\n\t1\r\n " None
+    ∷ held short "\n1" (Some 18)
+    ∷ held short "1\n" (Some 16)
+    ∷ held short "\n1\n\n" (Some 19)
+    ∷ held short "0\n1\n" (Some 16)
+    ∷ held "2\n1" "" (Some 1)
     ∷ [])
 unfolding mismatch blank between blanks token start token_at same decimal digits
 unpadded_held = (refl, (refl, (refl, (refl, (refl, (refl, (refl, tt)))))))

@@ -1,4 +1,5 @@
 -- Laws of tokens: blank bytes, a token byte by byte, and a token that is a number. Assumes nothing.
+use Rattle.std.specs.Prelude.{Ok, Err}
 use Prim.Native.Nat.{ℕ, suc, ◌+◌, ◌-◌, ◌/◌, ◌%◌, ◌≤◌, ◌<◌, zero-le}
 use mathlib.Core.Path.{◌≡◌, refl, sym, ap, ◌∙◌}
 use mathlib.Core.Logic.{◌↔◌}
@@ -13,21 +14,12 @@ use borrow.Author.Tests.{eqb-true, eq-eqb, ne_eqb}
 use Rattle.graph.proofs.Decide.{by_bool, both_ways}
 use Rattle.decimal.specs.Decimal.{digit, decimal}
 use Rattle.decimal.proofs.Digits.{decimal_small, decimal_step, decimal_ends}
-use Rattle.tokens.specs.declared.Step.TheVariants.{Next, Wrong}
 use Rattle.tokens.specs.declared.Form.{Form}
 use Rattle.tokens.specs.declared.Form.TheVariants.{Padded, Unpadded}
 use Rattle.tokens.specs.Tokens.{blank, between, blanks, token, token_at, start, same, numeral, line_end}
 use Rattle.tokens.specs.Steps.{expect_at}
 
-pub not_9_10_13 : (b : ℕ) → (b ≡ 9 → ⊥) → (b ≡ 10 → ⊥) → (b ≡ 13 → ⊥) → eqb b 32 ≡ blank b
-unfolding blank
-not_9_10_13 b p q r = rw (ne_eqb b 9 p, ne_eqb b 10 q, ne_eqb b 13 r)
-
--- a line feed stands between tokens in the padded form alone; of other bytes the forms say the same
-pub feed_padded : (form : Form) (b : ℕ) → form ≡ Padded → b ≡ 10 → true ≡ between form b
-unfolding between blank
-feed_padded form b e h = rw (e, h)
-
+-- a line feed is a token in the unpadded form; of other bytes the forms say the same
 pub feed_unpadded : (form : Form) (b : ℕ) → form ≡ Unpadded → b ≡ 10 → false ≡ between form b
 unfolding between
 feed_unpadded form b e h = rw (e, h)
@@ -187,25 +179,25 @@ module _ (form : Form) (text : List ℕ) (at n s e : ℕ) (r : Bool) (p : s ≡ 
   told : same (token_at text (start form text at)) (decimal n) ≡ r
   told = ap (λ (k : ℕ). same (token_at text k) (decimal n)) (sym p) ∙ ap (λ (w : List ℕ). same w (decimal n)) (sym (token_part text s e q)) ∙ sym c
 
-  pub expect_right : r ≡ true → Next (record { at = e }) ≡ expect_at form text at (numeral n)
+  pub expect_right : r ≡ true → Ok (record { at = e }) ≡ expect_at form text at (numeral n)
   unfolding expect_at
-  expect_right h = rw (told, h) (ap (λ (k : ℕ). Next (record { at = k })) (q ∙ ap (λ (k : ℕ). k + length (token_at text k)) p))
+  expect_right h = rw (told, h) (ap (λ (k : ℕ). Ok (record { at = k })) (q ∙ ap (λ (k : ℕ). k + length (token_at text k)) p))
 
-  pub expect_wrong : r ≡ false → Wrong s ≡ expect_at form text at (numeral n)
+  pub expect_wrong : r ≡ false → Err s ≡ expect_at form text at (numeral n)
   unfolding expect_at
-  expect_wrong h = rw (told, h) (ap (λ (k : ℕ). Wrong k) p)
+  expect_wrong h = rw (told, h) (ap (λ (k : ℕ). Err k) p)
 
 -- or a line feed, by the byte there
 module _ (form : Form) (text : List ℕ) (at s : ℕ) (p : s ≡ start form text at) where
-  pub feed_found : get_or text s 0 ≡ 10 → Next (record { at = s + 1 }) ≡ expect_at form text at line_end
+  pub feed_found : get_or text s 0 ≡ 10 → Ok (record { at = s + 1 }) ≡ expect_at form text at line_end
   unfolding expect_at
   feed_found h = rw (sym p, eq-eqb (get_or text s 0) 10 h)
 
-  pub feed_missing : (get_or text s 0 ≡ 10 → ⊥) → Wrong s ≡ expect_at form text at line_end
+  pub feed_missing : (get_or text s 0 ≡ 10 → ⊥) → Err s ≡ expect_at form text at line_end
   unfolding expect_at
   feed_missing h = rw (sym p, ne_eqb (get_or text s 0) 10 h)
 
-  pub feed_past : length text ≤ s → Wrong s ≡ expect_at form text at line_end
+  pub feed_past : length text ≤ s → Err s ≡ expect_at form text at line_end
   feed_past h = feed_missing (λ e. absurd (omega (arith, sym (get_or-eq_default text 0 h) ∙ e)))
 
 pub token_in : (form : Form) (text : List ℕ) (at s e : ℕ) → s ≡ start form text at → e ≡ s + length (token_at text s) → at ≤ length text → e ≤ length text

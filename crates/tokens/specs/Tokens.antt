@@ -1,7 +1,6 @@
 -- The tokens of a text (document 01, "alist text") in the two forms of an alist (document 02, slip 1), and the place at which they first
 -- differ from what is expected.
-use Rattle.std.specs.Prelude.{ℕ, suc, ◌+◌, Bool, true, false, cond, List, [], ◌∷◌, eqb, ltb, length, get_or, drop}
-use Rattle.std.proofs.Math.Option.{Option, none, some}
+use Rattle.std.specs.Prelude.{ℕ, suc, ◌+◌, Bool, true, false, cond, List, [], ◌∷◌, eqb, ltb, length, get_or, drop, Option, None, Some}
 use Rattle.decimal.specs.Decimal.{decimal}
 use Rattle.tokens.specs.declared.Form.{Form}
 use Rattle.tokens.specs.declared.Form.TheVariants.{Padded, Unpadded}
@@ -66,7 +65,7 @@ behind form text at line_end = start form text at + 1
 
 -- the first byte of the first wrong or extra token from a place on, or the text's length where it ends early
 unfoldable pub mismatch : Form → List ℕ → ℕ → List Item → Option ℕ
-mismatch form text at [] = cond (ltb (start form text at) (length text)) (some (start form text at)) none
+mismatch form text at [] = cond (ltb (start form text at) (length text)) (Some (start form text at)) None
 mismatch form text at (x ∷ xs) =
     let later = mismatch form text (behind form text at x) xs in
-    cond (right form text at x) later (some (start form text at))
+    cond (right form text at x) later (Some (start form text at))

@@ -1,7 +1,9 @@
 -- A tree on the way: what is left of a node's branches, and what has been written. Assumes nothing.
+use Rattle.std.specs.Prelude.{Option, Some, None}
 use Prim.Native.Nat.{ℕ, zero, suc, ◌+◌, ◌-◌, ◌≤◌, ◌<◌}
 use mathlib.Core.Path.{◌≡◌, refl, sym, ap, subst, ◌∙◌}
-use mathlib.Core.Bool.{Bool, false, not}
+use Rattle.std.specs.Option.{is_none}
+use mathlib.Core.Bool.{Bool, true, false, not}
 use mathlib.Core.List.{List, [], ◌∷◌, ◌++◌}
 use native.Mathlib.Omega.{arith}
 use native.Mathlib.Nat.{sub-zero}
@@ -10,13 +12,9 @@ use Rattle.writing.specs.Wrote.{Wrote}
 use Rattle.writing.proofs.Wrote.{wrote_one, wrote_then, wrote_length, Going, going_start, part_room, part_done, all_done}
 use Rattle.exponent.specs.declared.position.Position.{Position}
 use Rattle.index.specs.Index.{NextFrom}
-use Rattle.walks.specs.declared.Step.{Step}
-use Rattle.walks.specs.declared.Step.TheVariants.{Stay, To}
 use Rattle.walks.specs.Steps.{Blocks}
 use Rattle.walks.specs.Ways.{and_then, each}
 use Rattle.walks.proofs.Each.{each_turn, each_end, steps_skip}
-use Rattle.trees.specs.declared.grow.Grown.{Grown}
-use Rattle.trees.specs.declared.grow.Grown.TheVariants.{Full, Until}
 use Rattle.trees.specs.Tree.{step_to, width, packed, tree}
 use Rattle.trees.specs.Grow.{Grew, full, grown}
 
@@ -44,23 +42,27 @@ tree_some B bit (suc d) p = omega arith
 
 -- WHAT GROWING ANSWERS
 module _ {before nodes after : List ℕ} {at limit : ℕ} where
-  pub grew_full : {r : Grown} → Grew before at limit nodes after r → r ≡ Full → limit < at + length nodes
+  pub grew_full : {r : (Option ℕ)} → Grew before at limit nodes after r → r ≡ None → limit < at + length nodes
   grew_full (full h) e = h
   grew_full (grown h w) e = absurd (let z : ◌≡◌ {A = ℕ} 0 1 = cc in omega arith)
 
-  pub grew_until : {r : Grown} {next : ℕ} → Grew before at limit nodes after r → r ≡ Until next → (next ≤ limit) × Wrote before at nodes next after
+  pub grew_until : {r : (Option ℕ)} {next : ℕ} → Grew before at limit nodes after r → r ≡ Some next → (next ≤ limit) × Wrote before at nodes next after
   grew_until (full h) e = absurd (let z : ◌≡◌ {A = ℕ} 0 1 = cc in omega arith)
   grew_until {next = n} (grown {next = m} h w) e = let q : m ≡ n = cc in subst (λ (k : ℕ). (k ≤ limit) × Wrote before at nodes k after) q (h, w)
 
+  pub grew_over : {r : Option ℕ} → Grew before at limit nodes after r → true ≡ is_none r → limit < at + length nodes
+  grew_over (full h) e = h
+  grew_over (grown h w) e = absurd (let z : ⊥ = cc in z)
+
 -- a node that no edge follows, and the same for a list and an answer that are equal to these
-module _ {before after : List ℕ} {at limit : ℕ} {r : Grown} where
+module _ {before after : List ℕ} {at limit : ℕ} {r : (Option ℕ)} where
   pub grew_leaf : (B : Blocks) (bit : Bool) (left : ℕ) (p : Position) {x : ℕ} → left ≡ 0 → x ≡ packed B.lift bit 0 p → Grew before at limit (x ∷ []) after r
       → Grew before at limit (tree B bit left p) after r
   grew_leaf B bit left p none same g =
       subst (λ (nodes : List ℕ). Grew before at limit nodes after r)
       (sym (tree_last B bit left p none ∙ ap (λ (n : ℕ). packed B.lift bit n p ∷ []) none ∙ ap (λ (x : ℕ). x ∷ []) (sym same))) g
 
-  pub grew_same : {nodes after' : List ℕ} {r' : Grown} → r' ≡ r → after' ≡ after → Grew before at limit nodes after r → Grew before at limit nodes after' r'
+  pub grew_same : {nodes after' : List ℕ} {r' : (Option ℕ)} → r' ≡ r → after' ≡ after → Grew before at limit nodes after r → Grew before at limit nodes after' r'
   grew_same e f g = rw (e, f) g
 
 -- the branches before the i-th have been written
@@ -75,7 +77,7 @@ module _ {B : Blocks} {bit : Bool} {left : ℕ} {p : Position} {limit : ℕ} {st
   same_rest : {k : ℕ} → Rest B bit left p i ≡ Rest B bit left p k → Grows B bit left p limit start begin k work end
   same_rest e = record { fits = g.fits; going = rw e at g.going }
 
-  pub grows_skip : {test : ℕ → Bool} {m : ℕ} → NextFrom test i (width B bit) m → ((k : ℕ) → test k ≡ false → step_to B bit p k ≡ Stay) → Grows B bit left p limit start begin m work end
+  pub grows_skip : {test : ℕ → Bool} {m : ℕ} → NextFrom test i (width B bit) m → ((k : ℕ) → test k ≡ false → step_to B bit p k ≡ None) → Grows B bit left p limit start begin m work end
   grows_skip f stay = same_rest (steps_skip (step_to B bit p) (tree B (not bit) (left - 1)) f stay)
 
   pub grows_length : length work ≡ length start
@@ -84,12 +86,12 @@ module _ {B : Blocks} {bit : Bool} {left : ℕ} {p : Position} {limit : ℕ} {st
   turn : i < width B bit → Rest B bit left p i ≡ and_then (step_to B bit p i) (tree B (not bit) (left - 1)) ++ Rest B bit left p (i + 1)
   turn = each_turn (λ k. and_then (step_to B bit p k) (tree B (not bit) (left - 1))) (width B bit) i
 
-  pub grows_stay : i < width B bit → step_to B bit p i ≡ Stay → Grows B bit left p limit start begin (i + 1) work end
-  grows_stay h e = same_rest (turn h ∙ ap (λ (t : Step). and_then t (tree B (not bit) (left - 1)) ++ Rest B bit left p (i + 1)) e)
+  pub grows_stay : i < width B bit → step_to B bit p i ≡ None → Grows B bit left p limit start begin (i + 1) work end
+  grows_stay h e = same_rest (turn h ∙ ap (λ (t : Option Position). and_then t (tree B (not bit) (left - 1)) ++ Rest B bit left p (i + 1)) e)
 
-  module _ {q : Position} (h : i < width B bit) (e : step_to B bit p i ≡ To q) where
+  module _ {q : Position} (h : i < width B bit) (e : step_to B bit p i ≡ Some q) where
     taken : Rest B bit left p i ≡ tree B (not bit) (left - 1) q ++ Rest B bit left p (i + 1)
-    taken = turn h ∙ ap (λ (t : Step). and_then t (tree B (not bit) (left - 1)) ++ Rest B bit left p (i + 1)) e
+    taken = turn h ∙ ap (λ (t : Option Position). and_then t (tree B (not bit) (left - 1)) ++ Rest B bit left p (i + 1)) e
 
     pub grows_more : {after : List ℕ} {next : ℕ} → (next ≤ limit) × Wrote work end (tree B (not bit) (left - 1) q) next after → Grows B bit left p limit start begin (i + 1) after next
     grows_more w = record { fits = w.0; going = part_done (tree B (not bit) (left - 1) q) (Rest B bit left p (i + 1)) taken g.going w.1 }
@@ -100,7 +102,7 @@ module _ {B : Blocks} {bit : Bool} {left : ℕ} {p : Position} {limit : ℕ} {st
 
   -- the range has an end
   pub grows_end : width B bit ≤ i → (left ≡ 0 → ⊥) → {before : List ℕ} {at x : ℕ} → start ≡ set before at x → x ≡ packed B.lift bit left p → begin ≡ at + 1
-      → Grew before at limit (tree B bit left p) work (Until end)
+      → Grew before at limit (tree B bit left p) work (Some end)
   grows_end h some {before} {at} {x} a b c =
       grown g.fits
       (rw (tree_more B bit left p some)

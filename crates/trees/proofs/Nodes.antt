@@ -1,4 +1,5 @@
 -- The vertices of the Tanner graph as a tree meets them: positions, numbers of nodes, steps as edges. Assumes nothing.
+use Rattle.std.specs.Prelude.{Some}
 use Prim.Native.Nat.{ℕ, ◌+◌, ◌-◌, ◌*◌, ◌/◌, ◌%◌, ◌≤◌, ◌<◌}
 use mathlib.Core.Path.{◌≡◌, refl, sym, ap, ◌∙◌}
 use mathlib.Core.Logic.{◌≢◌}
@@ -17,7 +18,6 @@ use Rattle.exponent.specs.Plan.{block_at}
 use Rattle.exponent.specs.Position.{forward, back}
 use Rattle.exponent.specs.Tanner.{tanner, graph_of}
 use Rattle.exponent.proofs.Numbers.{block_low, block_of_law}
-use Rattle.walks.specs.declared.Step.TheVariants.{To}
 use Rattle.walks.specs.Steps.{blocks_of}
 use Rattle.walks.proofs.Link.{check_from, bit_from, edge_over, same_bit, same_check, step_bit, step_check, bit_step, check_step}
 use Rattle.walks.proofs.Steps.{lands}
@@ -104,7 +104,7 @@ module _ (plan : List ℤ) (s : Shape) (some_lift : 0 < s.lift) where
 
   -- a step of the tree is an edge, to another vertex than the walk came from
   pub moved : (u v : Node) (i : ℕ) (q : Position) → Inside (graph_of plan s) v → i < width (blocks_of plan s) (is_bit v)
-      → step_to (blocks_of plan s) (is_bit v) (position s.lift u v) i ≡ To q → Move (graph_of plan s) s.lift u v i q
+      → step_to (blocks_of plan s) (is_bit v) (position s.lift u v) i ≡ Some q → Move (graph_of plan s) s.lift u v i q
   unfolding Adj
   moved u (check c) i q low h e =
       let (a, _, j, d, r) = step_bit plan s some_lift (number u) c i q low h e in
@@ -115,7 +115,7 @@ module _ (plan : List ℤ) (s : Shape) (some_lift : 0 < s.lift) where
 
   -- and an edge to another row, or column, is such a step
   pub moves : (u v w : Node) → Adj (graph_of plan s) v w → block_of s.lift u ≢ block_of s.lift w
-      → step_to (blocks_of plan s) (is_bit v) (position s.lift u v) (block_of s.lift w) ≡ To (position s.lift v w)
+      → step_to (blocks_of plan s) (is_bit v) (position s.lift u v) (block_of s.lift w) ≡ Some (position s.lift v w)
   unfolding Adj
   moves u (check c) (check d) a n = absurd a
   moves u (check c) (bit b) a n = bit_step plan s some_lift (number u) c b a n
@@ -140,7 +140,7 @@ module _ (plan : List ℤ) (s : Shape) (some_lift : 0 < s.lift) where
   blocks_differ (bit b) (bit d) w a k n e = absurd a
 
   -- the vertex that a step to i leads to lies in row, or column, i
-  pub step_block : (bit : Bool) (p : Position) (i : ℕ) (q : Position) → step_to (blocks_of plan s) bit p i ≡ To q → block_of s.lift (vertex s.lift (not bit) q) ≡ i
+  pub step_block : (bit : Bool) (p : Position) (i : ℕ) (q : Position) → step_to (blocks_of plan s) bit p i ≡ Some q → block_of s.lift (vertex s.lift (not bit) q) ≡ i
   step_block true p i q e =
       lands (λ q. (q.row * P + q.voltage) / P ≡ i) (eqb i p.row) (block_at plan s.cols P i p.col) (back P p i)
       (λ x. block_of_law P some_lift i ((p.voltage + (P - x)) % P) (mod-lt (p.voltage + (P - x)) some_lift)) e

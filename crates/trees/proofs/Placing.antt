@@ -1,25 +1,27 @@
 -- Positions at a bit or at a check: what they allow, where a step leads, and which step is next. Assumes nothing.
+use Rattle.std.specs.Prelude.{None, Some}
 use Prim.Native.Nat.{ℕ, ◌+◌, ◌-◌, ◌*◌, ◌≤◌, ◌<◌}
-use mathlib.Core.Path.{◌≡◌, ap, ◌∙◌}
+use mathlib.Core.Path.{◌≡◌}
 use mathlib.Core.Bool.{Bool, true, false, not, cond}
 use mathlib.Core.List.{List}
 use native.Mathlib.Omega.{arith}
 use native.Mathlib.Nat.{mod-lt}
-use borrow.Author.Tests.{ltb-true, ltb-false}
-use lib.Dec.{eqb, ltb}
+use lib.Dec.{eqb}
 use lib.IntN.{ℤ}
-use Rattle.graph.proofs.Decide.{by_bool}
+use Rattle.graph.proofs.Decide.{by_le}
+use Rattle.index.proofs.Onward.{to_limit}
 use Rattle.exponent.specs.declared.Shape.{Shape}
 use Rattle.exponent.specs.declared.position.Position.{Position}
 use Rattle.exponent.specs.Plan.{block_at}
 use Rattle.exponent.specs.Position.{forward, back}
 use Rattle.exponent.proofs.Numbers.{number_low}
-use Rattle.index.specs.Index.{NextFrom}
-use Rattle.walks.specs.declared.Step.TheVariants.{To}
+use Rattle.index.specs.Index.{NextFrom, NextOf}
 use Rattle.walks.specs.Steps.{blocks_of, AtBit, AtCheck}
 use Rattle.walks.proofs.Steps.{lands}
+use Rattle.walks.proofs.Skips.{no_column, no_row}
 use Rattle.trees.specs.Tree.{step_to, block, parent}
-use Rattle.trees.specs.Grow.{Placed, Ready}
+use Rattle.trees.specs.Grow.{Placed, open_at}
+use Rattle.trees.proofs.Growing.{Grows, grows_skip}
 
 -- the number of a vertex
 pub vertex_low : (i lift v : ℕ) → i < 512 → lift ≤ 4096 → v < lift → i * lift + v < 2097152
@@ -39,7 +41,7 @@ module _ {plan : List ℤ} {s : Shape} {p : Position} where
   node_fits {bit = false} a h = (omega (arith, a.inside, a.formed.few_rows), a.formed.small_lift, a.voltage, h, a.from)
 
   -- a step leads to a position on the other side
-  pub landed : {bit : Bool} → Placed plan s bit p → {i : ℕ} → i < cond bit s.rows s.cols → {q : Position} → step_to (blocks_of plan s) bit p i ≡ To q → Placed plan s (not bit) q
+  pub landed : {bit : Bool} → Placed plan s bit p → {i : ℕ} → i < cond bit s.rows s.cols → {q : Position} → step_to (blocks_of plan s) bit p i ≡ Some q → Placed plan s (not bit) q
   landed {bit = true} a {i} h e =
       lands (Placed plan s false) (eqb i p.row) (block_at plan s.cols s.lift i p.col) (back s.lift p i)
       (λ x. record { formed = a.formed; inside = h; from = omega (arith, a.inside, a.formed.few_cols); voltage = mod-lt (p.voltage + (s.lift - x)) a.formed.some_lift }) e
@@ -47,15 +49,19 @@ module _ {plan : List ℤ} {s : Shape} {p : Position} where
       lands (Placed plan s true) (eqb i p.col) (block_at plan s.cols s.lift p.row i) (forward s.lift p i)
       (λ x. record { formed = a.formed; inside = h; from = omega (arith, a.inside, a.formed.few_rows); voltage = mod-lt (p.voltage + x) a.formed.some_lift }) e
 
--- what `next_from` finds is what the index says, or that none are left
-pub next_of : (test : ℕ → Bool) (x i n m : ℕ) → i ≤ n → (i < n → NextFrom test i n x) → m ≡ cond (ltb i n) x n → NextFrom test i n m
-next_of test x i n m h next e =
-    by_bool (ltb i n) (λ t. rw (e ∙ ap (λ (b : Bool). cond b x n) t) (next (ltb-true i n t)))
-    (λ t. none (ltb-false i n t) (e ∙ ap (λ (b : Bool). cond b x n) t))
-  where
-    none : n ≤ i → m ≡ n → NextFrom test i n m
-    none k q = record { from_here = omega arith; inside = omega arith; none_between = λ j a b. absurd (let z : ⊥ = omega arith in z); passes = λ a. absurd (let z : ⊥ = omega arith in z) }
+closed : (plan : List ℤ) (s : Shape) (p : Position) (bit : Bool) (k : ℕ) → open_at plan s bit p k ≡ false → step_to (blocks_of plan s) bit p k ≡ None
+closed plan s p true k e = no_row plan s p k e
+closed plan s p false k e = no_column plan s p k e
 
--- one edge fewer may follow
-pub ready_less : {plan : List ℤ} {s : Shape} {down along : List ℕ} {left less : ℕ} → 0 < less → less < 16 → Ready plan s down along left → Ready plan s down along less
-ready_less k h r = record { formed = r.formed; downward = r.downward; onward = r.onward; some = k; few = h }
+-- what has been written of the branches, from where the index leads to; and where it leads to nothing more, all is written
+module _ (plan : List ℤ) (s : Shape) {left : ℕ} {bit : Bool} {p : Position} {limit begin i end : ℕ} {start work : List ℕ}
+    (g : Grows (blocks_of plan s) bit left p limit start begin i work end) where
+  pub grows_next : {m : ℕ} → NextFrom (open_at plan s bit p) i (cond bit s.rows s.cols) m → Grows (blocks_of plan s) bit left p limit start begin m work end
+  grows_next n = grows_skip g n (closed plan s p bit)
+
+  pub grows_rest : NextOf (open_at plan s bit p) i (cond bit s.rows s.cols) None
+      → (m : ℕ) × (cond bit s.rows s.cols ≤ m) × Grows (blocks_of plan s) bit left p limit start begin m work end
+  grows_rest n =
+      by_le (cond bit s.rows s.cols) i
+      (λ h. (i, h, g))
+      (λ h. (cond bit s.rows s.cols, omega arith, grows_next (to_limit _ _ _ (omega arith) n)))

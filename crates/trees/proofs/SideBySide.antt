@@ -1,6 +1,6 @@
 -- Pairs of nodes: in a sorted list they stand side by side. Assumes nothing.
 use Prim.Native.Nat.{ℕ, zero, suc, ◌+◌, ◌-◌, ◌/◌, ◌≤◌, ◌<◌}
-use mathlib.Core.Path.{◌≡◌, refl, sym, ap, subst, ◌∙◌}
+use mathlib.Core.Path.{◌≡◌, sym, ap, subst, ◌∙◌}
 use mathlib.Core.Logic.{◌≢◌}
 use mathlib.Core.Bool.{Bool, true, false, not}
 use mathlib.Core.List.{List}
@@ -9,8 +9,8 @@ use borrow.Author.Tests.{eqb-true, eqb-false, eq-eqb, ne_eqb, not-true, not-fals
 use lib.Dec.{eqb}
 use lib.ListN.{length, get_or}
 use Rattle.graph.proofs.Lists.{get_or_mem}
-use Rattle.graph.proofs.Decide.{by_eq, by_le, and_left, and_right, both_ways}
-use Rattle.sorting.specs.Sorted.{Rising, Same}
+use Rattle.graph.proofs.Decide.{by_eq, by_le, and_left, and_right}
+use Rattle.sorting.specs.Sorted.{Rising, Same, Sorted}
 use Rattle.sorting.proofs.Members.{mem_at, same_back, same_member}
 use Rattle.trees.specs.Pairs.{Pair, meet, Decides}
 
@@ -33,7 +33,7 @@ unmet x y e h = eqb-true x y (not-false (eqb x y) (sym (meet_same x y h) ∙ e))
 
 -- ONE LIST
 
-pub pair_at : (l : List ℕ) (i k : ℕ) → i < length l → k < length l → meet (get_or l i 0) (get_or l k 0) ≡ true → Pair l
+pair_at : (l : List ℕ) (i k : ℕ) → i < length l → k < length l → meet (get_or l i 0) (get_or l k 0) ≡ true → Pair l
 pair_at l i k h q e =
     let m = met (get_or l i 0) (get_or l k 0) e in
     record { one = get_or l i 0; other = get_or l k 0; one_in = get_or_mem l i 0 h; other_in = get_or_mem l k 0 q; same = m.0; differ = m.1 }
@@ -58,7 +58,7 @@ module _ (l : List ℕ) (rising : Rising l) (none : (k : ℕ) → k + 1 < length
       let n : i + (k - i) ≡ k = omega arith in
       subst (λ (j : ℕ). get_or l i 0 ≡ get_or l j 0) n (level (k - i) i (omega arith) (subst (λ (j : ℕ). get_or l i 0 / 1024 ≡ get_or l j 0 / 1024) (sym n) e))
 
-  pub no_pair : Pair l → ⊥
+  no_pair : Pair l → ⊥
   no_pair p =
       let (i, h, e) = mem_at p.one l p.one_in in
       let (k, q, f) = mem_at p.other l p.other_in in
@@ -71,11 +71,11 @@ pair_same : {l m : List ℕ} → Same l m → Pair l → Pair m
 pair_same s p =
     record { one = p.one; other = p.other; one_in = same_member s p.one p.one_in; other_in = same_member s p.other p.other_in; same = p.same; differ = p.differ }
 
-pub decides_same : {l m : List ℕ} {r : Bool} → Same l m → Decides r (Pair m) → Decides r (Pair l)
-decides_same s d = record { yes = λ e. pair_same (same_back s) (d.yes e); no = λ e p. d.no e (pair_same s p) }
-
-pub decides_yes : {A : Type 0} → A → Decides true A
-decides_yes a = record { yes = λ e. a; no = λ e. both_ways {t = true} refl e }
-
-pub decides_no : {A : Type 0} → (A → ⊥) → Decides false A
-decides_no f = record { yes = λ e. both_ways {t = false} e refl; no = λ e. f }
+-- a list that is sorted tells whether there is a pair by the nodes side by side
+pub sorted_pair : {l m : List ℕ} {r : Bool} → Sorted l m → (r ≡ true → (k : ℕ) × (k + 1 < length m) × (meet (get_or m k 0) (get_or m (k + 1) 0) ≡ true))
+    → (r ≡ false → (k : ℕ) → k + 1 < length m → meet (get_or m k 0) (get_or m (k + 1) 0) ≡ false) → Decides r (Pair l)
+sorted_pair {m = m} s found none =
+    record {
+      yes = λ e. let (k, h, t) = found e in pair_same (same_back s.same) (pair_at m k (k + 1) (omega arith) h t);
+      no = λ e p. no_pair m s.rising (none e) (pair_same s.same p);
+    }

@@ -1,4 +1,5 @@
 -- The nodes of a tree are the walks that never step back: each stands in it once, as the number of its end. Assumes nothing.
+use Rattle.std.specs.Prelude.{Option, Some, None}
 use Prim.Native.Nat.{ℕ, zero, suc, ◌-◌, ◌≤◌, ◌<◌}
 use mathlib.Core.Path.{◌≡◌, refl, sym, ap, ap₂, subst, ◌∙◌}
 use mathlib.Core.Logic.{◌≢◌, inl, inr}
@@ -16,8 +17,6 @@ use Rattle.exponent.specs.declared.position.Position.{Position}
 use Rattle.exponent.specs.declared.Shape.{Shape}
 use Rattle.exponent.specs.Tanner.{graph_of}
 use Rattle.exponent.proofs.Numbers.{block_of_law}
-use Rattle.walks.specs.declared.Step.{Step}
-use Rattle.walks.specs.declared.Step.TheVariants.{Stay, To}
 use Rattle.walks.specs.Steps.{Blocks, blocks_of}
 use Rattle.walks.specs.Ways.{and_then, each}
 use Rattle.walks.proofs.Each.{mem_each, each_mem, nodup_each, mem_then, then_mem, nodup_then, each_map}
@@ -66,7 +65,7 @@ module _ (plan : List ℤ) (s : Shape) (some_lift : 0 < s.lift) where
   abbrev P : ℕ
   P = s.lift
 
-  abbrev step_at : Node → Node → ℕ → Step
+  abbrev step_at : Node → Node → ℕ → Option Position
   step_at u v i = step_to B (is_bit v) (position P u v) i
 
   abbrev behind : ℕ → Node → Node → ℕ → List (List Node)
@@ -82,10 +81,10 @@ module _ (plan : List ℤ) (s : Shape) (some_lift : 0 < s.lift) where
       (each_map (ending P (suc d) u v) (λ i. and_then (step_at u v i) (tree B (not (is_bit v)) d)) (behind d u v) (width B (is_bit v)) 0
       (λ i _ h. over (λ w k. tree_walks d v w k) i (omega arith) (step_at u v i) refl))
     where
-      over : ((w : Node) → Inside G w → tree B (is_bit w) d (position P v w) ≡ map (ending P d v w) (walks_from B d v w)) → (i : ℕ) → i < width B (is_bit v) → (t : Step) → step_at u v i ≡ t
+      over : ((w : Node) → Inside G w → tree B (is_bit w) d (position P v w) ≡ map (ending P d v w) (walks_from B d v w)) → (i : ℕ) → i < width B (is_bit v) → (t : Option Position) → step_at u v i ≡ t
           → and_then t (tree B (not (is_bit v)) d) ≡ map (ending P (suc d) u v) (and_then t (leading P v (walks_from B d v)))
-      over rest i h Stay e = refl
-      over rest i h (To q) e =
+      over rest i h None e = refl
+      over rest i h (Some q) e =
           let k = moved plan s some_lift u v i q low h e in
           ap₂ (λ (t : Bool) (x : Position). tree B t d x) (sym k.turns) (sym k.arrives)
           ∙ rest k.w k.inside
@@ -98,7 +97,7 @@ module _ (plan : List ℤ) (s : Shape) (some_lift : 0 < s.lift) where
   first_block [] = 0
   first_block (w ∷ l) = block_of P w
 
-  led : (d : ℕ) (u v : Node) (i : ℕ) (l : List Node) → Mem l (behind d u v i) → (q : Position) × (step_at u v i ≡ To q) × ((m : List Node) × (l ≡ vertex P (not (is_bit v)) q ∷ m))
+  led : (d : ℕ) (u v : Node) (i : ℕ) (l : List Node) → Mem l (behind d u v i) → (q : Position) × (step_at u v i ≡ Some q) × ((m : List Node) × (l ≡ vertex P (not (is_bit v)) q ∷ m))
   led d u v i l m =
       let (q, e, k) = mem_then (step_at u v i) (leading P v (walks_from B d v)) l m in
       (q, e, each_image (λ l. vertex P (not (is_bit v)) q ∷ l) (λ l. (m : List Node) × (l ≡ vertex P (not (is_bit v)) q ∷ m)) (walks_from B d v (vertex P (not (is_bit v)) q)) (λ m h. (m, refl)) l k)

@@ -1,15 +1,15 @@
 -- The tree of a column (source 000, Algorithms TR and B): all walks from bit (j, 0) that never step back, to a given number of edges.
 -- Each walk is a node, at the vertex that it has come to; the vertex before is its parent.
+use Rattle.std.specs.Prelude.{Option}
 use Rattle.std.specs.Prelude.{ℕ, zero, suc, ◌+◌, ◌-◌, ◌*◌, ◌/◌, Bool, true, false, not, cond, List, [], ◌∷◌, ltb, length}
 use Rattle.refusal.specs.Place.{somewhere}
 use Rattle.graph.specs.Count.{below}
 use Rattle.exponent.specs.declared.position.Position.{Position}
-use Rattle.walks.specs.declared.Step.{Step}
 use Rattle.walks.specs.Steps.{Blocks, to_column, to_row}
 use Rattle.walks.specs.Ways.{and_then, each, root_bit}
 
 -- from a bit a walk goes on to a row, from a check to a column
-abbrev pub step_to : Blocks → Bool → Position → ℕ → Step
+abbrev pub step_to : Blocks → Bool → Position → ℕ → Option Position
 step_to B true p i = to_row B p i
 step_to B false p i = to_column B p i
 

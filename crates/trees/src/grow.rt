@@ -1,18 +1,13 @@
-ghost use Rattle.std.specs.Prelude.{◌≡◌, true, false, [], ◌∷◌, ◌+◌, ◌*◌, ◌<◌, ◌≤◌, length, set};
-ghost use Rattle.walks.specs.Steps.{blocks_of};
-ghost use Rattle.trees.specs.Tree.{pack, packed, tree};
-ghost use Rattle.trees.specs.Grow.{Placed, Ready, Grew, next_from};
+ghost use Rattle.std.specs.Prelude.{◌≡◌, true, false, cond, [], ◌∷◌, ◌+◌, ◌*◌, ◌<◌, ◌≤◌, length, set};
+ghost use Rattle.walks.specs.Steps.{blocks};
+ghost use Rattle.index.specs.Index.{NextOf};
+ghost use Rattle.trees.specs.Tree.{block, parent, pack, packed, step_to, tree};
+ghost use Rattle.trees.specs.Grow.{Placed, Grew, open_at};
 
 use exponent::Shape;
+use exponent::plan::Plan;
 use exponent::position::Position;
-use walks::Step;
-
-// How far a tree has been written: past the limit, or until a place.
-#[derive(Clone, Copy)]
-pub enum Grown {
-    Full,
-    Until(usize),
-}
+use index::rows::Graph;
 
 // Stores a number where the list has a place for it.
 fn put(work: &mut [u64], at: usize, x: u64)
@@ -31,125 +26,122 @@ fn pack(vertex: usize, left: usize, side: usize, from: usize) -> u64
     (((vertex * 16 + left) * 2 + side) * 1024 + from) as u64
 }
 
+// The node of a bit or of a check, as one number.
+fn node(shape: Shape, bit: bool, left: usize, p: Position) -> u64
+    requires { (block bit p < 512) × (shape.lift ≤ 4096) × (p.voltage < shape.lift) × (left < 16) × (parent bit p ≤ 512) }
+    ensures { result ≡ packed shape.lift bit left p }
+{
+    if bit {
+        pack(walks::number(p.col, shape.lift, p.voltage), left, 1, p.row)
+    } else {
+        pack(walks::number(p.row, shape.lift, p.voltage), left, 0, p.col)
+    }
+}
+
 // Writes one node, or has no place for it.
-fn leaf(work: &mut [u64], at: usize, limit: usize, node: u64) -> Grown
+#[tactic(auto, using(writing::proofs::Wrote::wrote_one, crate::specs::Grow::full, crate::specs::Grow::grown))]
+fn leaf(work: &mut [u64], at: usize, limit: usize, node: u64) -> Option<usize>
     ensures { Grew work.old at limit (node ∷ []) work.new result }
 {
     if limit <= at {
-        return Grown::Full;
+        return None;
     }
     put(work, at, node);
-    Grown::Until(at + 1)
+    Some(at + 1)
 }
 
-// The node of a bit, and of a check, as one number.
-fn bit_node(shape: Shape, left: usize, p: Position) -> u64
-    requires { (p.col < 512) × (shape.lift ≤ 4096) × (p.voltage < shape.lift) × (left < 16) × (p.row ≤ 512) }
-    ensures { result ≡ packed shape.lift true left p }
+// The next filled row of a bit's column, or filled column of a check's row, from `from` on.
+fn next_step(graph: &Graph, bit: bool, p: Position, from: usize) -> Option<usize>
+    requires { Placed graph.now.rows.plan.entries.now graph.now.rows.plan.shape bit p }
+    ensures { NextOf (open_at graph.now.rows.plan.entries.now graph.now.rows.plan.shape bit p) from (cond bit graph.now.rows.plan.shape.rows graph.now.rows.plan.shape.cols) result }
 {
-    let bit = walks::number(p.col, shape.lift, p.voltage);
-    pack(bit, left, 1, p.row)
-}
-
-fn check_node(shape: Shape, left: usize, p: Position) -> u64
-    requires { (p.row < 512) × (shape.lift ≤ 4096) × (p.voltage < shape.lift) × (left < 16) × (p.col ≤ 512) }
-    ensures { result ≡ packed shape.lift false left p }
-{
-    let check = walks::number(p.row, shape.lift, p.voltage);
-    pack(check, left, 0, p.col)
-}
-
-// The next filled row or column from `from` on, as the list has it at (i, j), or `count` where there are no more.
-fn next_from(list: &[u16], cols: usize, i: usize, j: usize, from: usize, count: usize) -> usize
-    requires { from < count → i * cols + j < length list.now }
-    ensures { result ≡ next_from list.now cols i j from count }
-{
-    if from < count {
-        return index::next(list, cols, i, j);
+    if bit {
+        graph.next_row(from, p.col)
+    } else {
+        graph.rows.next(p.row, from)
     }
-    count
 }
 
-// Writes the nodes from a bit on, where `left` edges may follow; stops at the limit. The last nodes are written without a call.
-#[cycle(at_bit_at_check)]
+// From a bit to its check in row i, or from a check to its bit in column i.
+fn step_to(plan: &Plan, bit: bool, p: Position, i: usize) -> Option<Position>
+    requires { Placed plan.now.entries.now plan.now.shape bit p × (i < cond bit plan.now.shape.rows plan.now.shape.cols) }
+    ensures { result ≡ step_to (blocks plan.now) bit p i }
+{
+    if bit {
+        walks::to_row(plan, p, i)
+    } else {
+        walks::to_column(plan, p, i)
+    }
+}
+
+// Writes the nodes from a bit or a check on, where `left` edges may follow; stops at the limit. The last nodes are written
+// without a call. It is inlined where the side is known, so that no test of it is left in the loop.
+#[inline(always)]
+#[cycle(grow)]
+fn grow(
+    graph: &Graph,
+    bit: bool,
+    left: usize,
+    p: Position,
+    work: &mut [u64],
+    at: usize,
+    limit: usize,
+) -> Option<usize>
+    requires { (0 < left) × (left < 16) × Placed graph.now.rows.plan.entries.now graph.now.rows.plan.shape bit p }
+    ensures { Grew work.old at limit (tree (blocks graph.now.rows.plan) bit left p) work.new result }
+{
+    if limit <= at {
+        return None;
+    }
+    let shape = graph.rows.plan.shape;
+    put(work, at, node(shape, bit, left, p));
+    let mut end = at + 1;
+    let mut from = 0;
+    while let Some(i) = next_step(graph, bit, p, from) {
+        from = i + 1;
+        let Some(q) = step_to(&graph.rows.plan, bit, p, i) else {
+            continue;
+        };
+        let grown = if left == 1 {
+            leaf(work, end, limit, node(shape, !bit, 0, q))
+        } else if bit {
+            at_check(graph, left - 1, q, work, end, limit)
+        } else {
+            at_bit(graph, left - 1, q, work, end, limit)
+        };
+        end = grown?;
+    }
+    Some(end)
+}
+
+// Writes the nodes from a bit on.
+#[cycle(grow)]
 pub fn at_bit(
-    plan: &[i16],
-    down: &[u16],
-    along: &[u16],
-    shape: Shape,
+    graph: &Graph,
     left: usize,
     p: Position,
     work: &mut [u64],
     at: usize,
     limit: usize,
-) -> Grown
-    requires { Ready plan.now shape down.now along.now left × Placed plan.now shape true p }
-    ensures { Grew work.old at limit (tree (blocks_of plan.now shape) true left p) work.new result }
+) -> Option<usize>
+    requires { (0 < left) × (left < 16) × Placed graph.now.rows.plan.entries.now graph.now.rows.plan.shape true p }
+    ensures { Grew work.old at limit (tree (blocks graph.now.rows.plan) true left p) work.new result }
 {
-    if limit <= at {
-        return Grown::Full;
-    }
-    put(work, at, bit_node(shape, left, p));
-    let rows = shape.rows;
-    let mut end = at + 1;
-    let mut next = next_from(down, shape.cols, 0, p.col, 0, rows);
-    while next < rows {
-        let row = next;
-        next = next_from(down, shape.cols, row + 1, p.col, row + 1, rows);
-        let step = walks::to_row(plan, shape, p, row);
-        if let Step::To(q) = step {
-            let g = if left == 1 {
-                leaf(work, end, limit, check_node(shape, 0, q))
-            } else {
-                at_check(plan, down, along, shape, left - 1, q, work, end, limit)
-            };
-            match g {
-                Grown::Full => return Grown::Full,
-                Grown::Until(place) => end = place,
-            }
-        }
-    }
-    Grown::Until(end)
+    grow(graph, true, left, p, work, at, limit)
 }
 
-// Writes the nodes from a check on, where `left` edges may follow; stops at the limit. The last nodes are written without a call.
-#[cycle(at_bit_at_check)]
-pub fn at_check(
-    plan: &[i16],
-    down: &[u16],
-    along: &[u16],
-    shape: Shape,
+// Writes the nodes from a check on.
+#[cycle(grow)]
+fn at_check(
+    graph: &Graph,
     left: usize,
     p: Position,
     work: &mut [u64],
     at: usize,
     limit: usize,
-) -> Grown
-    requires { Ready plan.now shape down.now along.now left × Placed plan.now shape false p }
-    ensures { Grew work.old at limit (tree (blocks_of plan.now shape) false left p) work.new result }
+) -> Option<usize>
+    requires { (0 < left) × (left < 16) × Placed graph.now.rows.plan.entries.now graph.now.rows.plan.shape false p }
+    ensures { Grew work.old at limit (tree (blocks graph.now.rows.plan) false left p) work.new result }
 {
-    if limit <= at {
-        return Grown::Full;
-    }
-    put(work, at, check_node(shape, left, p));
-    let cols = shape.cols;
-    let mut end = at + 1;
-    let mut next = next_from(along, cols, p.row, 0, 0, cols);
-    while next < cols {
-        let col = next;
-        next = next_from(along, cols, p.row, col + 1, col + 1, cols);
-        let step = walks::to_column(plan, shape, p, col);
-        if let Step::To(q) = step {
-            let g = if left == 1 {
-                leaf(work, end, limit, bit_node(shape, 0, q))
-            } else {
-                at_bit(plan, down, along, shape, left - 1, q, work, end, limit)
-            };
-            match g {
-                Grown::Full => return Grown::Full,
-                Grown::Until(place) => end = place,
-            }
-        }
-    }
-    Grown::Until(end)
+    grow(graph, false, left, p, work, at, limit)
 }

@@ -3,7 +3,7 @@
 use Prim.Native.Nat.{ℕ}
 use mathlib.Core.Path.{◌≡◌, refl}
 use mathlib.Core.List.{List, [], ◌∷◌}
-use mathlib.Core.Option.{Option, none, some}
+use Rattle.std.specs.Prelude.{Option, None, Some}
 use Rattle.refusal.specs.declared.Refusal.{Refusal}
 use Rattle.refusal.specs.declared.Refusal.TheVariants.{Target, WorkPlace}
 use Rattle.refusal.specs.Lowest.{lowest}
@@ -28,14 +28,14 @@ second = 0 ∷ 0 ∷ 0 ∷ 1 ∷ []
 -- The 2 × 2 plan of zeros at 12 (11 nodes, and a pair at depth 2); 0 0 / 0 1 at 8 (7 nodes); one row of three blocks (4 nodes); the first
 -- plan at 18 (17 nodes); a target that is not allowed, which comes first.
 pub computed :
-    (refusal zeros 2 2 1 12 10 ≡ some WorkPlace)
-    × (refusal zeros 2 2 1 12 11 ≡ none)
-    × (refusal second 2 2 2 8 6 ≡ some WorkPlace)
-    × (refusal second 2 2 2 8 7 ≡ none)
-    × (refusal (0 ∷ 0 ∷ 0 ∷ []) 1 3 4096 12 3 ≡ some WorkPlace)
-    × (refusal (0 ∷ 0 ∷ 0 ∷ []) 1 3 4096 12 4 ≡ none)
-    × (refusal zeros 2 2 1 18 16 ≡ some WorkPlace)
-    × (refusal zeros 2 2 1 18 17 ≡ none)
-    × (refusal zeros 2 2 1 7 0 ≡ some Target)
+    (refusal zeros 2 2 1 12 10 ≡ Some WorkPlace)
+    × (refusal zeros 2 2 1 12 11 ≡ None)
+    × (refusal second 2 2 2 8 6 ≡ Some WorkPlace)
+    × (refusal second 2 2 2 8 7 ≡ None)
+    × (refusal (0 ∷ 0 ∷ 0 ∷ []) 1 3 4096 12 3 ≡ Some WorkPlace)
+    × (refusal (0 ∷ 0 ∷ 0 ∷ []) 1 3 4096 12 4 ≡ None)
+    × (refusal zeros 2 2 1 18 16 ≡ Some WorkPlace)
+    × (refusal zeros 2 2 1 18 17 ≡ None)
+    × (refusal zeros 2 2 1 7 0 ≡ Some Target)
 unfolding lowest pair_rules test_rules plan_rules first_place allowed member entry_at block_at overfull tree each range
 computed = (refl, refl, refl, refl, refl, refl, refl, refl, refl)

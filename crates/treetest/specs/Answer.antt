@@ -1,6 +1,7 @@
 -- The girth test by sorted pairs (document 02, slip 8): when it is refused, and what its answer says of a plan.
-use Rattle.std.specs.Prelude.{ℕ, ◌≡◌, List, [], ◌∷◌, ◌++◌, ℤ}
-use Rattle.std.proofs.Math.Option.{none, some}
+use Rattle.std.specs.Prelude.{Result, Ok, Err, true, false}
+use Rattle.std.specs.Prelude.{⊤, Bool, ℕ, ◌≡◌, List, [], ◌∷◌, ◌++◌, ℤ}
+use Rattle.std.specs.Prelude.{None, Some}
 use Rattle.refusal.specs.declared.Refusal.{Refusal}
 use Rattle.refusal.specs.declared.Refusal.TheVariants.{WorkPlace}
 use Rattle.refusal.specs.Lowest.{Rule, refuse, lowest}
@@ -9,8 +10,6 @@ use Rattle.exponent.specs.Tanner.{tanner}
 use Rattle.walks.specs.Steps.{blocks_of}
 use Rattle.girth.specs.Test.{test_rules}
 use Rattle.trees.specs.Tree.{depth_of, overfull}
-use Rattle.treetest.specs.declared.Verdict.{Verdict}
-use Rattle.treetest.specs.declared.Verdict.TheVariants.{Passed, NotPassed, Refused}
 
 -- refusals 1 to 6 and 14 of the girth test, and 26: the tree of some column has more nodes than the work list has places
 unfoldable pub pair_rules : List ℤ → ℕ → ℕ → ℕ → ℕ → ℕ → List Rule
@@ -19,14 +18,13 @@ pair_rules plan rows cols lift target places =
     ++ refuse WorkPlace (overfull (blocks_of plan (record { rows = rows; cols = cols; lift = lift })) (depth_of target) places) ∷ []
 
 -- The answer is the lowest refusal that applies; else whether the plan passes at the target.
-pub data Answer (plan : List ℤ) (rows cols lift target places : ℕ) : Verdict → Type 0 where
-  refused : (x : Refusal) → lowest (pair_rules plan rows cols lift target places) ≡ some x → Answer plan rows cols lift target places (Refused x)
-  passed : lowest (pair_rules plan rows cols lift target places) ≡ none → Passes (tanner plan rows cols lift) target → Answer plan rows cols lift target places Passed
-  not_passed : lowest (pair_rules plan rows cols lift target places) ≡ none → (Passes (tanner plan rows cols lift) target → ⊥)
-      → Answer plan rows cols lift target places NotPassed
+pub data Answer (plan : List ℤ) (rows cols lift target places : ℕ) : Result Bool Refusal → Type 0 where
+  refused : (x : Refusal) → lowest (pair_rules plan rows cols lift target places) ≡ Some x → Answer plan rows cols lift target places (Err x)
+  passed : lowest (pair_rules plan rows cols lift target places) ≡ None → Passes (tanner plan rows cols lift) target → Answer plan rows cols lift target places (Ok true)
+  not_passed : lowest (pair_rules plan rows cols lift target places) ≡ None → (Passes (tanner plan rows cols lift) target → ⊥)
+      → Answer plan rows cols lift target places (Ok false)
 
 -- the work list as lent, and after the call: on a refusal it is as lent, and after a verdict what it holds is free
-abbrev pub Leaves : List ℕ → List ℕ → Verdict → Type 0
-Leaves lent after Passed = Unit {0}
-Leaves lent after NotPassed = Unit {0}
-Leaves lent after (Refused x) = after ≡ lent
+abbrev pub Leaves : List ℕ → List ℕ → Result Bool Refusal → Type 0
+Leaves lent after (Ok passes) = ⊤
+Leaves lent after (Err x) = after ≡ lent

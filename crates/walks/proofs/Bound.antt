@@ -1,11 +1,13 @@
 -- The time of the search. From one root: a call for each vertex at most, and one more, for the bit that is met again. In a whole
 -- search: each root of each round once, and the root with the answer twice. Assumes nothing.
+use Rattle.std.specs.Prelude.{Option}
 use Prim.Native.Nat.{ℕ, zero, suc, ◌+◌, ◌*◌, ◌/◌, ◌≤◌, ◌<◌}
 use mathlib.Core.Path.{◌≡◌, refl, sym, subst, ◌∙◌}
 use mathlib.Core.Logic.{inl, inr}
 use mathlib.Core.Bool.{Bool, true, false, cond}
 use mathlib.Core.List.{List, [], ◌∷◌}
-use mathlib.Core.Option.{none, some, none-ne-some}
+use Rattle.std.specs.Prelude.{None, Some}
+use Rattle.std.proofs.lemmas.Option.{none-some}
 use native.Mathlib.Omega.{arith}
 use native.Mathlib.Nat.{suc-mul, add-mul, mul_assoc, mul-le-mul_right}
 use lib.IntN.{ℤ}
@@ -17,7 +19,7 @@ use Rattle.exponent.specs.declared.Shape.{Shape}
 use Rattle.exponent.specs.Tanner.{graph_of}
 use Rattle.walks.specs.Steps.{Blocks, blocks_of}
 use Rattle.walks.specs.Ways.{Way, odd, roots, ways}
-use Rattle.walks.specs.Meeting.{Result, repeat, join, meeting, or_else, first_of, short_cycle}
+use Rattle.walks.specs.Meeting.{repeat, join, meeting, or_else, first_of, short_cycle}
 use Rattle.walks.specs.Calls.{run, second_calls, root_calls, unless_met, calls_until, round_calls, search_calls, root_bound, search_bound}
 use Rattle.walks.proofs.Link.{at_0}
 use Rattle.walks.proofs.Growth.{run_calls}
@@ -31,20 +33,20 @@ use Rattle.walks.proofs.Tallies.{few_stamps}
 
 -- UNTIL AN ANSWER: k turns of Y calls at most, and X more where there is an answer
 
-abbrev extra : ℕ → Result → ℕ
-extra X none = 0
-extra X (some w) = X
+abbrev extra : ℕ → Option Way → ℕ
+extra X None = 0
+extra X (Some w) = X
 
-extra_le : (X : ℕ) (r : Result) → extra X r ≤ X
-extra_le X none = omega arith
-extra_le X (some w) = omega arith
+extra_le : (X : ℕ) (r : Option Way) → extra X r ≤ X
+extra_le X None = omega arith
+extra_le X (Some w) = omega arith
 
-turn_few : (X Y k c later : ℕ) (r rest : Result) → c ≤ Y + extra X r → (r ≡ none → later ≤ k * Y + extra X rest) → c + unless_met r later ≤ suc k * Y + extra X (or_else r rest)
-turn_few X Y k c later none rest h on = omega (arith, suc-mul k Y, on refl)
-turn_few X Y k c later (some w) rest h on = omega (arith, suc-mul k Y)
+turn_few : (X Y k c later : ℕ) (r rest : Option Way) → c ≤ Y + extra X r → (r ≡ None → later ≤ k * Y + extra X rest) → c + unless_met r later ≤ suc k * Y + extra X (or_else r rest)
+turn_few X Y k c later None rest h on = omega (arith, suc-mul k Y, on refl)
+turn_few X Y k c later (Some w) rest h on = omega (arith, suc-mul k Y)
 
 -- where I holds of the first turn, and of each turn after one without an answer
-module _ (I : ℕ → Type 0) (answer : ℕ → Result) (calls : ℕ → ℕ) (X Y top : ℕ) (on : (j : ℕ) → I j → answer j ≡ none → I (suc j)) (few : (j : ℕ) → j < top → I j → calls j ≤ Y + extra X (answer j)) where
+module _ (I : ℕ → Type 0) (answer : ℕ → Option Way) (calls : ℕ → ℕ) (X Y top : ℕ) (on : (j : ℕ) → I j → answer j ≡ None → I (suc j)) (few : (j : ℕ) → j < top → I j → calls j ≤ Y + extra X (answer j)) where
   until_few : (k i : ℕ) → i + k ≤ top → I i → calls_until answer calls k i ≤ k * Y + extra X (first_of answer k i)
   unfolding calls_until first_of
   until_few zero i h at = omega arith
@@ -82,13 +84,13 @@ module _ (plan : List ℤ) (s : Shape) (some_lift : 0 < s.lift) where
         first : (run B n k []).calls ≤ root_bound s
         first = few_run_calls [] tt (λ b m. absurd m)
 
-        again : (w : Way) → repeat [] (ways B n k) ≡ some w → (run B n k (w.end ∷ [])).calls ≤ root_bound s
+        again : (w : Way) → repeat [] (ways B n k) ≡ Some w → (run B n k (w.end ∷ [])).calls ≤ root_bound s
         again w e = few_run_calls (w.end ∷ []) (λ m. m, tt) (λ b m. elim m [ inl q ↦ subst End (sym q) (way_end w (some_mem [] (ways B n k) w e)) | inr x ↦ absurd x ])
 
-        go : (m : Result) → meeting B n k ≡ m → (r : Result) → repeat [] (ways B n k) ≡ r → (run B n k []).calls + second_calls B n k r ≤ root_bound s + extra (root_bound s) m
-        go m e none h = omega (arith, first)
-        go none e (some w) h = absurd (none-ne-some w (sym (missed (ways B n k) (join B n k) e) ∙ h))
-        go (some v) e (some w) h = omega (arith, first, again w h)
+        go : (m : Option Way) → meeting B n k ≡ m → (r : Option Way) → repeat [] (ways B n k) ≡ r → (run B n k []).calls + second_calls B n k r ≤ root_bound s + extra (root_bound s) m
+        go m e None h = omega (arith, first)
+        go None e (Some w) h = absurd (none-some w (sym (missed (ways B n k) (join B n k) e) ∙ h))
+        go (Some v) e (Some w) h = omega (arith, first, again w h)
 
   -- ROUNDS
 

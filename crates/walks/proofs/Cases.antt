@@ -3,7 +3,7 @@
 use Prim.Native.Nat.{◌+◌}
 use mathlib.Core.Path.{◌≡◌, refl}
 use mathlib.Core.List.{[], ◌∷◌}
-use mathlib.Core.Option.{none, some}
+use Rattle.std.specs.Prelude.{None, Some}
 use lib.IntN.{pos, negsuc}
 use Rattle.graph.specs.Count.{member}
 use Rattle.exponent.specs.Plan.{shifts, entry_at, block_at}
@@ -18,19 +18,19 @@ small = blocks_of (shifts (0 ∷ 0 ∷ 0 ∷ 1 ∷ [])) (record { rows = 2; cols
 abbrev ring : Blocks
 ring = blocks_of (pos 0 ∷ pos 0 ∷ negsuc 0 ∷ negsuc 0 ∷ pos 0 ∷ pos 0 ∷ pos 0 ∷ negsuc 0 ∷ pos 0 ∷ []) (record { rows = 3; cols = 3; lift = 1 })
 
-pub two_open : short_cycle small 2 ≡ none
+pub two_open : short_cycle small 2 ≡ None
 unfolding short_cycle first_of meeting repeat member ways from_bit each entry_at block_at
 two_open = refl
 
-pub three_open : short_cycle small 3 ≡ none
+pub three_open : short_cycle small 3 ≡ None
 unfolding short_cycle first_of meeting repeat member ways from_bit each entry_at block_at
 three_open = refl
 
-pub four_close : short_cycle small 4 ≡ some (record { joints = record { check = 1; bit = 3 } ∷ record { check = 2; bit = 0 } ∷ record { check = 0; bit = 2 } ∷ record { check = 3; bit = 1 } ∷ []; end = 1 })
+pub four_close : short_cycle small 4 ≡ Some (record { joints = record { check = 1; bit = 3 } ∷ record { check = 2; bit = 0 } ∷ record { check = 0; bit = 2 } ∷ record { check = 3; bit = 1 } ∷ []; end = 1 })
 unfolding short_cycle first_of meeting repeat member ways from_bit each back_along entry_at block_at
 four_close = refl
 
-pub three_close : short_cycle ring 3 ≡ some (record { joints = record { check = 1; bit = 1 } ∷ record { check = 0; bit = 0 } ∷ record { check = 2; bit = 2 } ∷ []; end = 2 })
+pub three_close : short_cycle ring 3 ≡ Some (record { joints = record { check = 1; bit = 1 } ∷ record { check = 0; bit = 0 } ∷ record { check = 2; bit = 2 } ∷ []; end = 2 })
 unfolding short_cycle first_of meeting repeat member ways from_bit each back_along entry_at block_at
 three_close = refl
 

@@ -1,5 +1,6 @@
 -- The laws of `each` and `and_then`: what a list over a range of steps has; the same one turn on, at its end, and where an index
 -- skips. Assumes nothing.
+use Rattle.std.specs.Prelude.{Option, Some, None}
 use Prim.Native.Nat.{ℕ, zero, suc, ◌+◌, ◌-◌, ◌≤◌, ◌<◌}
 use mathlib.Core.Path.{◌≡◌, refl, sym, ap, ap₂, subst, ◌∙◌}
 use mathlib.Core.Logic.{inl, inr}
@@ -12,8 +13,6 @@ use Rattle.graph.proofs.Decide.{by_eq}
 use Rattle.graph.proofs.Lists.{mem_left, mem_right, mem_append, nodup_append}
 use Rattle.exponent.specs.declared.position.Position.{Position}
 use Rattle.index.specs.Index.{NextFrom}
-use Rattle.walks.specs.declared.Step.{Step}
-use Rattle.walks.specs.declared.Step.TheVariants.{Stay, To}
 use Rattle.walks.specs.Ways.{and_then, each}
 
 -- A range, one turn on, and at its end.
@@ -82,19 +81,19 @@ each_map f h g (suc k) i e =
 module _ {A : Type 0} where
   -- BEHIND A STEP
 
-  pub mem_then : (s : Step) (next : Position → List A) (w : A) → Mem w (and_then s next) → (q : Position) × (s ≡ To q) × Mem w (next q)
-  mem_then Stay next w m = absurd m
-  mem_then (To q) next w m = (q, refl, m)
+  pub mem_then : (s : Option Position) (next : Position → List A) (w : A) → Mem w (and_then s next) → (q : Position) × (s ≡ Some q) × Mem w (next q)
+  mem_then None next w m = absurd m
+  mem_then (Some q) next w m = (q, refl, m)
 
-  pub then_mem : (s : Step) (next : Position → List A) (q : Position) (w : A) → s ≡ To q → Mem w (next q) → Mem w (and_then s next)
+  pub then_mem : (s : Option Position) (next : Position → List A) (q : Position) (w : A) → s ≡ Some q → Mem w (next q) → Mem w (and_then s next)
   then_mem s next q w e m = rw e m
 
-  pub nodup_then : (s : Step) (next : Position → List A) → ((q : Position) → s ≡ To q → Nodup (next q)) → Nodup (and_then s next)
-  nodup_then Stay next d = tt
-  nodup_then (To q) next d = d q refl
+  pub nodup_then : (s : Option Position) (next : Position → List A) → ((q : Position) → s ≡ Some q → Nodup (next q)) → Nodup (and_then s next)
+  nodup_then None next d = tt
+  nodup_then (Some q) next d = d q refl
 
   -- where an index skips, no step is taken
-  pub steps_skip : (step : ℕ → Step) (next : Position → List A) {test : ℕ → Bool} {i n m : ℕ} → NextFrom test i n m → ((k : ℕ) → test k ≡ false → step k ≡ Stay)
+  pub steps_skip : (step : ℕ → (Option Position)) (next : Position → List A) {test : ℕ → Bool} {i n m : ℕ} → NextFrom test i n m → ((k : ℕ) → test k ≡ false → step k ≡ None)
       → each (λ k. and_then (step k) next) (n - i) i ≡ each (λ k. and_then (step k) next) (n - m) m
   steps_skip step next {i = i} {n = n} {m = m} f stay =
-      each_skip (λ k. and_then (step k) next) n i m f.from_here f.inside (λ k p q. ap (λ (t : Step). and_then t next) (stay k (f.none_between k p q)))
+      each_skip (λ k. and_then (step k) next) n i m f.from_here f.inside (λ k p q. ap (λ (t : Option Position). and_then t next) (stay k (f.none_between k p q)))

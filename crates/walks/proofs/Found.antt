@@ -4,7 +4,7 @@ use mathlib.Core.Path.{◌≡◌, refl, sym, ap, ap₂, subst, ◌∙◌}
 use mathlib.Core.Logic.{◌≢◌}
 use mathlib.Core.List.{List, [], ◌∷◌, reverse_aux}
 use mathlib.Core.Bool.{Bool, true, false}
-use mathlib.Core.Option.{some}
+use Rattle.std.specs.Prelude.{Some}
 use native.Mathlib.Omega.{arith}
 use lib.IntN.{ℤ}
 use lib.ListN.{length, length-map}
@@ -69,13 +69,13 @@ module _ (plan : List ℤ) (s : Shape) (some_lift : 0 < s.lift) where
         (around G n (odd n) (at_0 s k) w v (walked plan s some_lift n k low w m) (walked plan s some_lift n k low v h))
 
   -- what a round finds is a simple cycle
-  pub found_cycle : (n : ℕ) (c : Way) → 2 ≤ n → Passes (graph_of plan s) (2 * n) → short_cycle (blocks_of plan s) n ≡ some c
+  pub found_cycle : (n : ℕ) (c : Way) → 2 ≤ n → Passes (graph_of plan s) (2 * n) → short_cycle (blocks_of plan s) n ≡ Some c
       → (length c.joints ≡ n) × SimpleCycle (graph_of plan s) n (checks_in c.joints) (bits_in c.joints)
   unfolding short_cycle meeting
   found_cycle n c two passes e =
       let (k, p, low, h) = some_at (meeting B n) (roots B n) 0 c e in
-      let (w, a, g) = with_some (repeat [] (ways B n k)) (λ w. with_way (repeat (w.end ∷ []) (ways B n k)) (λ v. some (join B n k w v))) c h in
-      let (v, b, j) = with_some (repeat (w.end ∷ []) (ways B n k)) (λ v. some (join B n k w v)) c g in
+      let (w, a, g) = with_some (repeat [] (ways B n k)) (λ w. with_way (repeat (w.end ∷ []) (ways B n k)) (λ v. Some (join B n k w v))) c h in
+      let (v, b, j) = with_some (repeat (w.end ∷ []) (ways B n k)) (λ v. Some (join B n k w v)) c g in
       let (differ, ends) = other_way [] (ways B n k) w v (distinct plan s some_lift n k) (λ m. m) a b in
       let l = (join B n k w v).joints in
       let same : l ≡ c.joints = ap (λ (x : Way). x.joints) (let z : join B n k w v ≡ c = cc in z) in

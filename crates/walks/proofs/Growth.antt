@@ -1,4 +1,5 @@
 -- A run makes a call for each walk before the last depth at most, and one for each bit that it stamps. Assumes nothing.
+use Rattle.std.specs.Prelude.{Option, Some, None}
 use Prim.Native.Nat.{ℕ, zero, suc, ◌+◌, ◌-◌, ◌/◌, ◌≤◌}
 use mathlib.Core.Bool.{Bool, true, false, cond}
 use mathlib.Core.List.{List, ◌∷◌, ◌++◌}
@@ -7,8 +8,6 @@ use lib.ListN.{length, length-append, length-map}
 use Rattle.graph.specs.Walks.{Node}
 use Rattle.exponent.specs.declared.position.Position.{Position}
 use Rattle.walks.specs.declared.Corner.{Corner}
-use Rattle.walks.specs.declared.Step.{Step}
-use Rattle.walks.specs.declared.Step.TheVariants.{Stay, To}
 use Rattle.walks.specs.Steps.{Blocks, to_column, to_row}
 use Rattle.walks.specs.Ways.{each, corner, odd, root_bit, root_check}
 use Rattle.walks.specs.Calls.{Tally, called, on_step, turns, check_calls, bit_calls, run_by, run}
@@ -30,9 +29,9 @@ turns_grow f F h (suc k) i t =
     (omega (arith, h i t, turns_grow f F h k (suc i) (f i t), length-append (F i) (each F k (suc i))))
 
 step_grow : (at : Position → Node) (next : Position → List (List Node)) (f : Position → Tally → Tally) → ((q : Position) (t : Tally) → Grows (length (next q)) t (f q t))
-    → (s : Step) (t : Tally) → Grows (length (over_step at next s)) t (on_step s f t)
-step_grow at next f h Stay t = omega arith
-step_grow at next f h (To q) t = omega (arith, h q t, length-map (next q) (λ l. at q ∷ l))
+    → (s : Option Position) (t : Tally) → Grows (length (over_step at next s)) t (on_step s f t)
+step_grow at next f h None t = omega arith
+step_grow at next f h (Some q) t = omega (arith, h q t, length-map (next q) (λ l. at q ∷ l))
 
 module _ (B : Blocks) (κ : Corner) where
   check_grow : (f : Position → Tally → Tally) (next : Position → List (List Node)) → ((q : Position) (t : Tally) → Grows (length (next q)) t (f q t))

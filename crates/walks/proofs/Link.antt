@@ -1,5 +1,6 @@
 -- The positions of the search and the vertices of the Tanner graph: a step of the search is an edge other than the one just used.
 -- Assumes nothing.
+use Rattle.std.specs.Prelude.{Some}
 use Prim.Native.Nat.{ℕ, ◌+◌, ◌-◌, ◌*◌, ◌/◌, ◌%◌, ◌<◌}
 use mathlib.Core.Path.{◌≡◌, refl, sym, ap, ap₂, ◌∙◌}
 use mathlib.Core.Logic.{◌≢◌}
@@ -20,7 +21,6 @@ use Rattle.exponent.specs.Position.{forward, back}
 use Rattle.exponent.specs.Tanner.{edge, tanner, graph_of}
 use Rattle.exponent.proofs.Numbers.{same_number, block_of_law, place_of, number_low, block_low, undo}
 use Rattle.exponent.proofs.Tanner.{shift_low}
-use Rattle.walks.specs.declared.Step.TheVariants.{To}
 use Rattle.walks.specs.Steps.{blocks_of, over, unless, to_column, to_row}
 use Rattle.walks.specs.Ways.{root_bit, root_check}
 
@@ -33,14 +33,14 @@ bit_from lift c b = record { row = c / lift; col = b / lift; voltage = b % lift 
 
 -- A step to row or column i, come from k: the block is filled, and another one than was just used.
 module _ (f : ℕ → Position) where
-  taken : (b : Block) (t : Bool) (q : Position) → unless t (over b f) ≡ To q → (t ≡ false) × ((e : ℕ) × (b ≡ Shift e) × (f e ≡ q))
+  taken : (b : Block) (t : Bool) (q : Position) → unless t (over b f) ≡ Some q → (t ≡ false) × ((e : ℕ) × (b ≡ Shift e) × (f e ≡ q))
   taken b true q h = absurd (let z : ◌≡◌ {A = ℕ} 0 1 = cc in omega arith)
   taken Zero false q h = absurd (let z : ◌≡◌ {A = ℕ} 0 1 = cc in omega arith)
   taken (Shift e) false q h = (refl, (e, refl, (cc)))
   taken Invalid false q h = absurd (let z : ◌≡◌ {A = ℕ} 0 1 = cc in omega arith)
 
-  takes : (b : Block) (i k e : ℕ) (q : Position) → i ≢ k → b ≡ Shift e → f e ≡ q → unless (eqb i k) (over b f) ≡ To q
-  takes b i k e q d h p = ap₂ (λ (t : Bool) (x : Block). unless t (over x f)) (ne_eqb i k d) h ∙ ap To p
+  takes : (b : Block) (i k e : ℕ) (q : Position) → i ≢ k → b ≡ Shift e → f e ≡ q → unless (eqb i k) (over b f) ≡ Some q
+  takes b i k e q d h p = ap₂ (λ (t : Bool) (x : Block). unless t (over x f)) (ne_eqb i k d) h ∙ ap Some p
 
 edge_shift : (b : Block) (lift y z : ℕ) → edge b lift y z ≡ true → (e : ℕ) × (b ≡ Shift e) × ((y + e) % lift ≡ z)
 edge_shift Zero lift y z h = absurd (let z : ◌≡◌ {A = ℕ} 0 1 = cc in omega arith)
@@ -111,7 +111,7 @@ module _ (plan : List ℤ) (s : Shape) where
         same_number P a c e (sym p.back ∙ ap (λ (x : ℕ). (b % P + (P - x)) % P) h ∙ q.back)
 
     -- a step from check c to column j leads to another bit of c, in that column
-    pub step_bit : (b c j : ℕ) (q : Position) → c < (graph_of plan s).checks → j < s.cols → to_column (blocks_of plan s) (check_from s.lift b c) j ≡ To q
+    pub step_bit : (b c j : ℕ) (q : Position) → c < (graph_of plan s).checks → j < s.cols → to_column (blocks_of plan s) (check_from s.lift b c) j ≡ Some q
         → (a : ℕ) × (a / s.lift ≡ j) × Joined (graph_of plan s) c a × (b ≢ a) × (bit_from s.lift c a ≡ q)
     unfolding tanner
     step_bit b c j q low h e =
@@ -122,7 +122,7 @@ module _ (plan : List ℤ) (s : Shape) where
         (a.number, a.block, joined, apart P j b a.number t a.block, r ∙ k)
 
     -- and one from bit b to row i to another check of b, in that row
-    pub step_check : (c b i : ℕ) (q : Position) → b < (graph_of plan s).bits → i < s.rows → to_row (blocks_of plan s) (bit_from s.lift c b) i ≡ To q
+    pub step_check : (c b i : ℕ) (q : Position) → b < (graph_of plan s).bits → i < s.rows → to_row (blocks_of plan s) (bit_from s.lift c b) i ≡ Some q
         → (a : ℕ) × (a / s.lift ≡ i) × Joined (graph_of plan s) a b × (c ≢ a) × (check_from s.lift b a ≡ q)
     unfolding tanner
     step_check c b i q low h e =
@@ -135,14 +135,14 @@ module _ (plan : List ℤ) (s : Shape) where
 
     -- each edge to another column, or row, is such a step
     pub bit_step : (b c a : ℕ) → Joined (graph_of plan s) c a → b / s.lift ≢ a / s.lift
-        → to_column (blocks_of plan s) (check_from s.lift b c) (a / s.lift) ≡ To (bit_from s.lift c a)
+        → to_column (blocks_of plan s) (check_from s.lift b c) (a / s.lift) ≡ Some (bit_from s.lift c a)
     bit_step b c a j d =
         let o = edge_over c a j in
         takes (forward P (check_from P b c) (a / P)) (block (c / P) (a / P)) (a / P) (b / P) o.shift (bit_from P c a) (λ e. d (sym e)) o.block
         (λ i. record { row = c / P; col = a / P; voltage = o.forth i })
 
     pub check_step : (c b a : ℕ) → Joined (graph_of plan s) a b → c / s.lift ≢ a / s.lift
-        → to_row (blocks_of plan s) (bit_from s.lift c b) (a / s.lift) ≡ To (check_from s.lift b a)
+        → to_row (blocks_of plan s) (bit_from s.lift c b) (a / s.lift) ≡ Some (check_from s.lift b a)
     check_step c b a j d =
         let o = edge_over a b j in
         takes (back P (bit_from P c b) (a / P)) (block (a / P) (b / P)) (a / P) (c / P) o.shift (check_from P b a) (λ e. d (sym e)) o.block

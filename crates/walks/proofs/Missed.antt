@@ -4,7 +4,7 @@ use Prim.Native.Nat.{ℕ, suc, ◌-◌, ◌*◌, ◌/◌, ◌≤◌, ◌<◌, �
 use mathlib.Core.Path.{◌≡◌, sym, ap, subst, ◌∙◌}
 use mathlib.Core.Logic.{inl, inr}
 use mathlib.Core.List.{List, [], ◌∷◌, map}
-use mathlib.Core.Option.{none}
+use Rattle.std.specs.Prelude.{None}
 use native.Mathlib.Omega.{arith}
 use lib.IntN.{ℤ}
 use lib.ListN.{length}
@@ -42,11 +42,11 @@ module _ (plan : List ℤ) (s : Shape) (some_lift : 0 < s.lift) where
 
   -- MET: where a round finds nothing, there is no cycle of that size
 
-  nothing_at : (n : ℕ) → short_cycle B n ≡ none → (k : ℕ) → k < roots B n → repeat [] (ways B n k) ≡ none
+  nothing_at : (n : ℕ) → short_cycle B n ≡ None → (k : ℕ) → k < roots B n → repeat [] (ways B n k) ≡ None
   unfolding short_cycle meeting
   nothing_at n e k low = missed (ways B n k) (join B n k) (none_at (meeting B n) (roots B n) 0 e k (omega arith) (omega arith))
 
-  no_two : (n : ℕ) → short_cycle B n ≡ none → (k : ℕ) → k < roots B n → (l m : List Node) (e : ℕ) → (w v : Way) → Mem w (ways B n k) → Mem v (ways B n k)
+  no_two : (n : ℕ) → short_cycle B n ≡ None → (k : ℕ) → k < roots B n → (l m : List Node) (e : ℕ) → (w v : Way) → Mem w (ways B n k) → Mem v (ways B n k)
       → nodes w.joints ≡ l → nodes v.joints ≡ m → w.end ≡ e → v.end ≡ e → l ≡ m
   no_two n None-found k low l m e w v a b p q f g =
       sym p ∙ ap (λ (x : Way). nodes x.joints) (none_twice [] (ways B n k) (nothing_at n None-found k low) w v a b (f ∙ sym g)) ∙ q
@@ -75,7 +75,7 @@ module _ (plan : List ℤ) (s : Shape) (some_lift : 0 < s.lift) where
   low_check k (check f ∷ l) h w = absurd w.0.0
   low_check k (bit a ∷ l) h w = omega (arith, (edge_over plan s some_lift (at_0 s k) a w.0.0).row, block_of_law P some_lift k 0 some_lift)
 
-  none_bit : (n d : ℕ) → n ≡ 2 * d → 2 ≤ n → short_cycle B n ≡ none → (k : ℕ) (m : Meeting G n (bit (at_0 s k)))
+  none_bit : (n d : ℕ) → n ≡ 2 * d → 2 ≤ n → short_cycle B n ≡ None → (k : ℕ) (m : Meeting G n (bit (at_0 s k)))
       → ((v : Node) → Mem v m.one → From P (corner 0 k) v) → ((v : Node) → Mem v m.two → From P (corner 0 k) v) → ⊥
   none_bit n d even two None-found k m over-one over-two =
       let z = at_0 s k in
@@ -88,7 +88,7 @@ module _ (plan : List ℤ) (s : Shape) (some_lift : 0 < s.lift) where
       let (v, b, q, g) = listed_bit plan s some_lift (corner 0 k) d (at_0 s s.rows) z m.two e m.walk_two over-two (off_row z m.two m.walk_two) (m.long_two ∙ even) same in
       m.differ (no_two n None-found k (rw t low) m.one m.two e w v (subst (Mem w) (sym (even_ways plan s some_lift n d k even)) a) (subst (Mem v) (sym (even_ways plan s some_lift n d k even)) b) p q f g)
 
-  none_check : (n d : ℕ) → n ≡ suc (2 * d) → 2 ≤ n → short_cycle B n ≡ none → (k : ℕ) (m : Meeting G n (check (at_0 s k)))
+  none_check : (n d : ℕ) → n ≡ suc (2 * d) → 2 ≤ n → short_cycle B n ≡ None → (k : ℕ) (m : Meeting G n (check (at_0 s k)))
       → ((v : Node) → Mem v m.one → From P (corner k 0) v) → ((v : Node) → Mem v m.two → From P (corner k 0) v) → ⊥
   none_check n d uneven two None-found k m over-one over-two =
       let c = at_0 s k in
@@ -104,7 +104,7 @@ module _ (plan : List ℤ) (s : Shape) (some_lift : 0 < s.lift) where
 
   -- a cycle, turned so that its lowest bit, or its lowest check, has voltage 0, would have been met
 
-  no_even : (n d : ℕ) → n ≡ 2 * d → short_cycle B n ≡ none → Passes G (2 * n) → (cs bs : List ℕ) → SimpleCycle G n cs bs → ⊥
+  no_even : (n d : ℕ) → n ≡ 2 * d → short_cycle B n ≡ None → Passes G (2 * n) → (cs bs : List ℕ) → SimpleCycle G n cs bs → ⊥
   no_even n d even e passes cs [] y = omega (arith, y.least, y.n_bits)
   no_even n d even e passes cs (x ∷ bs) y =
       let (b, in-cycle, least) = least_of (λ a. a / P) x bs in
@@ -120,7 +120,7 @@ module _ (plan : List ℤ) (s : Shape) (some_lift : 0 < s.lift) where
       high b i least (bit a) h =
           each_image (turn P i) (λ a. b / P ≤ a / P) (x ∷ bs) (λ a m. omega (arith, turn_block P some_lift i a, least a m)) a (weave_bit a (map (turn P i) cs) (map (turn P i) (x ∷ bs)) h)
 
-  no_odd : (n d : ℕ) → n ≡ suc (2 * d) → short_cycle B n ≡ none → Passes G (2 * n) → (cs bs : List ℕ) → SimpleCycle G n cs bs → ⊥
+  no_odd : (n d : ℕ) → n ≡ suc (2 * d) → short_cycle B n ≡ None → Passes G (2 * n) → (cs bs : List ℕ) → SimpleCycle G n cs bs → ⊥
   no_odd n d uneven e passes [] bs y = omega (arith, y.least, y.n_checks)
   no_odd n d uneven e passes (x ∷ cs) bs y =
       let (c, in-cycle, least) = least_of (λ a. a / P) x cs in
@@ -136,7 +136,7 @@ module _ (plan : List ℤ) (s : Shape) (some_lift : 0 < s.lift) where
       high c i least (check a) h =
           each_image (turn P i) (λ a. c / P ≤ a / P) (x ∷ cs) (λ a m. omega (arith, turn_block P some_lift i a, least a m)) a (weave_check a (map (turn P i) (x ∷ cs)) (map (turn P i) bs) h)
 
-  pub passes_on : (n : ℕ) → 2 ≤ n → short_cycle (blocks_of plan s) n ≡ none → Passes (graph_of plan s) (2 * n) → Passes (graph_of plan s) (2 * suc n)
+  pub passes_on : (n : ℕ) → 2 ≤ n → short_cycle (blocks_of plan s) n ≡ None → Passes (graph_of plan s) (2 * n) → Passes (graph_of plan s) (2 * suc n)
   unfolding Passes
   passes_on n two e passes m cs bs y =
       let h = passes m cs bs y in

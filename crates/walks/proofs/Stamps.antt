@@ -1,26 +1,25 @@
 -- The stamps: a list of stamps says which bits were seen, so that a run over the ways finds the first repeat; and two ways as the
 -- code holds them are joined as the model joins them. Assumes nothing.
+use Rattle.std.specs.Prelude.{Option}
 use Prim.Native.Nat.{ℕ, zero, suc, ◌-◌, ◌≤◌, ◌<◌}
 use mathlib.Core.Path.{◌≡◌, refl, sym, ap, ap₂, subst, ◌∙◌}
 use mathlib.Core.Logic.{inl, inr}
 use mathlib.Core.Bool.{Bool, true, false, cond, ◌||◌}
 use mathlib.Core.List.{List, [], ◌∷◌}
-use mathlib.Core.Option.{some}
+use Rattle.std.specs.Prelude.{Some}
 use native.Mathlib.Omega.{arith}
 use borrow.Author.Tests.{eq-eqb, ne_eqb}
 use lib.Dec.{eqb}
-use lib.IntN.{ℤ}
 use lib.ListN.{length, get_or, set, replicate, length-set, length-replicate}
 use lib.Seq.{get_or-set_same, get_or-set_other}
 use Rattle.graph.specs.Count.{Mem, member}
 use Rattle.graph.proofs.Decide.{by_eq, by_le, both_ways}
-use Rattle.exponent.specs.declared.Shape.{Shape}
 use Rattle.walks.specs.declared.trail.Trail.{Trail}
 use Rattle.walks.proofs.Roots.{Sized}
 use Rattle.walks.specs.Ways.{Joint, Way}
-use Rattle.walks.specs.Meeting.{Result, repeat, back_along, join_by}
+use Rattle.walks.specs.Meeting.{repeat, back_along, join_by}
 use Rattle.walks.specs.Trail.{places, pop, push, lay, back_trail, join_trail}
-use Rattle.walks.specs.Stamps.{Run, scan, Below, Lists}
+use Rattle.walks.specs.Stamps.{Run, scan, Below}
 
 -- the places that bear the stamp are the bits of S
 abbrev pub Marks : ℕ → List ℕ → List ℕ → Type 0
@@ -45,7 +44,7 @@ scan_repeat stamp (w ∷ W) seen S low h =
     go (eqb (get_or seen w.end 0) stamp) (member w.end S) (scan stamp W (set seen w.end stamp)) (repeat (w.end ∷ S) W) (h w.end (low w (inl refl)))
     (scan_repeat stamp W (set seen w.end stamp) (w.end ∷ S) (λ v m. rw length-set (low v (inr m))) (marks_more stamp seen S w.end (low w (inl refl)) h))
   where
-    go : (t u : Bool) (x : Run) (y : Result) → t ≡ u → x.hit ≡ y → (cond t (record { hit = some w; seen = seen }) x).hit ≡ cond u (some w) y
+    go : (t u : Bool) (x : Run) (y : Option Way) → t ≡ u → x.hit ≡ y → (cond t (record { hit = Some w; seen = seen }) x).hit ≡ cond u (Some w) y
     go true true x y e q = refl
     go true false x y e q = both_ways {t = true} refl e
     go false true x y e q = both_ways {t = true} refl (sym e)
@@ -76,13 +75,9 @@ unfolding scan
 scan_below stamp [] seen m k h = h
 scan_below stamp (w ∷ W) seen m k h = go (eqb (get_or seen w.end 0) stamp) (scan stamp W (set seen w.end stamp)) (scan_below stamp W (set seen w.end stamp) m k (below_set seen w.end stamp m k h))
   where
-    go : (t : Bool) (r : Run) → Below r.seen m → Below (cond t (record { hit = some w; seen = seen }) r).seen m
+    go : (t : Bool) (r : Run) → Below r.seen m → Below (cond t (record { hit = Some w; seen = seen }) r).seen m
     go true r q = h
     go false r q = q
-
--- the lists of a search, where the stamps are others but as many
-pub same_lists : {plan : List ℤ} {s : Shape} {down along seen seen₁ : List ℕ} → length seen₁ ≡ length seen → Lists plan s down along seen → Lists plan s down along seen₁
-same_lists e h = let room = h.room in record { downward = h.downward; onward = h.onward; room = omega arith }
 
 pub below_more : {seen : List ℕ} {m k : ℕ} → m ≤ k → Below seen m → Below seen k
 below_more e h = record { below = λ b. omega (arith, h.below b) }
@@ -104,10 +99,10 @@ stamps_room {m} h = subst (λ (n : ℕ). m ≤ n) stamps_made h
 
 -- the loop that goes back
 
-pub back_step : (k z : ℕ) (w on : Trail) → 0 < k → back_trail k z w on ≡ back_trail (k - 1) w.b0 (pop w) (push w.c0 z on)
+pub back_step : (k z : ℕ) (w on : Trail) → 0 < k → back_trail k z w on ≡ back_trail (k - 1) (get_or w.bits 0 0) (pop w) (push (get_or w.checks 0 0) z on)
 unfolding back_trail
 back_step zero z w on h = absurd (omega arith)
-back_step (suc k) z w on h = let e : k ≡ suc k - 1 = omega arith in ap (λ (x : ℕ). back_trail x w.b0 (pop w) (push w.c0 z on)) e
+back_step (suc k) z w on h = let e : k ≡ suc k - 1 = omega arith in ap (λ (x : ℕ). back_trail x (get_or w.bits 0 0) (pop w) (push (get_or w.checks 0 0) z on)) e
 
 pub back_end : (k z : ℕ) (w on : Trail) → k ≤ 0 → on ≡ back_trail k z w on
 unfolding back_trail

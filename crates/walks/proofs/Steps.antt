@@ -1,4 +1,6 @@
 -- Where a step of the search lands, and each search as its loop finds it. Assumes nothing.
+use Rattle.std.specs.Prelude.{Option, Some, None}
+use Rattle.std.proofs.lemmas.Option.{none-some}
 use Prim.Native.Nat.{ℕ, zero, suc, ◌+◌, ◌-◌, ◌*◌, ◌≤◌, ◌<◌}
 use mathlib.Core.Path.{◌≡◌, refl, subst}
 use mathlib.Core.Bool.{Bool, true, false, true≢false}
@@ -15,12 +17,9 @@ use Rattle.exponent.specs.Plan.{block_at, filled}
 use Rattle.exponent.specs.Position.{forward, back}
 use Rattle.exponent.proofs.Numbers.{number_low}
 use Rattle.walks.specs.declared.Corner.{Corner}
-use Rattle.walks.specs.declared.Step.TheVariants.{Stay, To}
-use Rattle.walks.specs.declared.trail.Found.{Found}
 use Rattle.walks.specs.declared.trail.Trail.{Trail}
 use Rattle.walks.specs.Steps.{Blocks, blocks_of, over, unless, to_column, to_row, AtCheck, AtBit}
 use Rattle.walks.specs.Ways.{Way, more, and_then, each, joint}
-use Rattle.walks.specs.Trail.{push}
 use Rattle.walks.specs.Ways.{arrived, from_check, from_bit}
 use Rattle.walks.specs.Stamps.{Ran}
 use Rattle.walks.proofs.Loops.{Left, left_start}
@@ -31,34 +30,28 @@ listed {R} {C} {i = i} {j = j} h p q = omega (arith, number_low i j R C p q)
 
 -- Where a step lands: what holds after it whatever the shift, holds of the position that it leads to.
 
-apart : {C : Type 0} (q : Position) → Stay ≡ To q → C
-apart q e = absurd (let z : ◌≡◌ {A = ℕ} 0 1 = cc in omega arith)
-
-pub lands : (Q : Position → Type 0) (t : Bool) (b : Block) (f : ℕ → Position) → ((e : ℕ) → Q (f e)) → {q : Position} → unless t (over b f) ≡ To q → Q q
-lands Q true b f h {q} e = apart q e
-lands Q false Zero f h {q} e = apart q e
+pub lands : (Q : Position → Type 0) (t : Bool) (b : Block) (f : ℕ → Position) → ((e : ℕ) → Q (f e)) → {q : Position} → unless t (over b f) ≡ Some q → Q q
+lands Q true b f h {q} e = absurd (none-some q e)
+lands Q false Zero f h {q} e = absurd (none-some q e)
 lands Q false (Shift x) f h {q} e = subst Q (let z : f x ≡ q = cc in z) (h x)
-lands Q false Invalid f h {q} e = apart q e
+lands Q false Invalid f h {q} e = absurd (none-some q e)
 
-pub stays : (t : Bool) (b : Block) (f : ℕ → Position) → filled b ≡ false → unless t (over b f) ≡ Stay
+pub stays : (t : Bool) (b : Block) (f : ℕ → Position) → filled b ≡ false → unless t (over b f) ≡ None
 stays true b f e = refl
 stays false Zero f e = refl
 stays false (Shift x) f e = absurd (true≢false e)
 stays false Invalid f e = refl
 
 module _ {plan : List ℤ} {s : Shape} {p : Position} where
-  pub to_bit : AtCheck plan s p → {j : ℕ} → j < s.cols → {q : Position} → to_column (blocks_of plan s) p j ≡ To q → AtBit plan s q
+  pub to_bit : AtCheck plan s p → {j : ℕ} → j < s.cols → {q : Position} → to_column (blocks_of plan s) p j ≡ Some q → AtBit plan s q
   to_bit a {j} h e =
       lands (AtBit plan s) (eqb j p.col) (block_at plan s.cols s.lift p.row j) (forward s.lift p j)
       (λ x. record { formed = a.formed; col = h; voltage = mod-lt (p.voltage + x) a.formed.some_lift }) e
 
-  pub to_check : AtBit plan s p → {i : ℕ} → i < s.rows → {q : Position} → to_row (blocks_of plan s) p i ≡ To q → AtCheck plan s q
+  pub to_check : AtBit plan s p → {i : ℕ} → i < s.rows → {q : Position} → to_row (blocks_of plan s) p i ≡ Some q → AtCheck plan s q
   to_check a {i} h e =
       lands (AtCheck plan s) (eqb i p.row) (block_at plan s.cols s.lift i p.col) (back s.lift p i)
       (λ x. record { formed = a.formed; row = h; voltage = mod-lt (p.voltage + (s.lift - x)) a.formed.some_lift }) e
-
-pub push_same : {c c' b b' : ℕ} {t t' : Trail} → c ≡ c' → b ≡ b' → t ≡ t' → push c b t ≡ push c' b' t'
-push_same p q r = λ i. push (p i) (q i) (r i)
 
 -- What is left of each search: at a bit, and at a check.
 
@@ -93,7 +86,7 @@ module _ (B : Blocks) (p : Position) (stamp j₀ : ℕ) (seen₀ : List ℕ) whe
   abbrev pub EndsLeft : ℕ → List ℕ → Type 0
   EndsLeft = Left stamp (ends_from B p j₀) seen₀ (to_column B p) (arriving B p) B.cols
 
-module _ (B : Blocks) (k : Corner) (p : Position) {stamp : ℕ} {before after : List ℕ} {r : Found} where
+module _ (B : Blocks) (k : Corner) (p : Position) {stamp : ℕ} {before after : List ℕ} {r : (Option Trail)} where
   pub ends_ran : Ran stamp (ends_from B p k.col) before r after → Ran stamp (from_check B k (from_bit B k 0) p) before r after
   unfolding from_bit
   ends_ran h = h

@@ -1,11 +1,12 @@
 -- The count of calls goes over the ways that the search goes over, and stops where it stops: at the first repeat. So it stamps each
 -- end of a way at most once, and one of them again. Assumes nothing.
+use Rattle.std.specs.Prelude.{Option}
 use Prim.Native.Nat.{ℕ, zero, suc, ◌+◌, ◌-◌, ◌*◌, ◌/◌, ◌≤◌}
 use mathlib.Core.Path.{◌≡◌, refl, sym, ap, subst, ◌∙◌}
 use mathlib.Core.Logic.{inl, inr}
 use mathlib.Core.Bool.{Bool, true, false, cond}
 use mathlib.Core.List.{List, [], ◌∷◌, ◌++◌, map}
-use mathlib.Core.Option.{none, some}
+use Rattle.std.specs.Prelude.{None, Some}
 use native.Mathlib.Omega.{arith}
 use lib.ListN.{length}
 use Rattle.graph.specs.Count.{Mem, member, Nodup}
@@ -13,11 +14,9 @@ use Rattle.graph.proofs.Count.{mem_member}
 use Rattle.graph.proofs.Decide.{by_bool, both_ways}
 use Rattle.exponent.specs.declared.position.Position.{Position}
 use Rattle.walks.specs.declared.Corner.{Corner}
-use Rattle.walks.specs.declared.Step.{Step}
-use Rattle.walks.specs.declared.Step.TheVariants.{Stay, To}
 use Rattle.walks.specs.Steps.{Blocks, to_column, to_row}
 use Rattle.walks.specs.Ways.{Joint, Way, more, and_then, each, joint, from_check, from_bit, corner, odd, root_bit, root_check, ways_by, ways}
-use Rattle.walks.specs.Meeting.{Result, repeat}
+use Rattle.walks.specs.Meeting.{repeat}
 use Rattle.walks.specs.Calls.{Tally, on_step, turns, check_calls, bit_calls, run_by, run}
 
 -- a tally without its calls
@@ -73,10 +72,10 @@ turns_follow f F h (suc k) i t =
     ∙ ap (follow (each F k (suc i))) (h i t e)
     ∙ sym (follow_append (F i) (each F k (suc i)) (state t)))
 
-step_follows : (s : Step) (f : Position → Tally → Tally) (F : Position → List Way) → ((q : Position) → Follows (f q) (F q)) → Follows (on_step s f) (and_then s F)
+step_follows : (s : Option Position) (f : Position → Tally → Tally) (F : Position → List Way) → ((q : Position) → Follows (f q) (F q)) → Follows (on_step s f) (and_then s F)
 unfolding follow
-step_follows Stay f F h t e = refl
-step_follows (To q) f F h t e = h q t e
+step_follows None f F h t e = refl
+step_follows (Some q) f F h t e = h q t e
 
 module _ (B : Blocks) (κ : Corner) where
   check_follows : (next : Position → Tally → Tally) (W : Position → List Way) → ((q : Position) → Follows (next q) (W q)) → (p : Position) → Follows (check_calls B κ next p) (from_check B κ W p)
@@ -103,9 +102,9 @@ run_follows B n k S = run_follows_by (odd n) B (n / 2) k (record { calls = 0; st
 
 -- THE COUNT STOPS WHERE THE SEARCH DOES
 
-abbrev pub is_some : Result → Bool
-is_some none = false
-is_some (some w) = true
+abbrev pub is_some : Option Way → Bool
+is_some None = false
+is_some (Some w) = true
 
 follow_stops : (W : List Way) (S : List ℕ) → (follow W (record { stamped = S; met = false })).met ≡ is_some (repeat S W)
 unfolding follow repeat
@@ -113,7 +112,7 @@ follow_stops [] S = refl
 follow_stops (w ∷ W) S = go (member w.end S) (follow_stops W (w.end ∷ S))
   where
     go : (t : Bool) → (follow W (record { stamped = w.end ∷ S; met = false })).met ≡ is_some (repeat (w.end ∷ S) W)
-        → (follow W (record { stamped = w.end ∷ S; met = t })).met ≡ is_some (cond t (some w) (repeat (w.end ∷ S) W))
+        → (follow W (record { stamped = w.end ∷ S; met = t })).met ≡ is_some (cond t (Some w) (repeat (w.end ∷ S) W))
     go true later = ap (λ (m : State). m.met) (follow_met W (record { stamped = w.end ∷ S; met = true }) refl)
     go false later = later
 

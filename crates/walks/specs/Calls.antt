@@ -1,16 +1,16 @@
 -- The calls that the search makes, of `at_bit`, `at_check`, `ends` and `arrive`: the measure of its time. A call's loop has a turn for
 -- each call that it makes, and two more at most. proofs/Bound.antt bounds them.
+use Rattle.walks.specs.Ways.{Way}
+use Rattle.std.specs.Prelude.{Option}
 use Rattle.std.specs.Prelude.{ℕ, zero, suc, ◌+◌, ◌-◌, ◌*◌, ◌/◌, Bool, true, false, cond, List, [], ◌∷◌}
-use Rattle.std.proofs.Math.Option.{none, some}
+use Rattle.std.specs.Prelude.{None, Some}
 use Rattle.graph.specs.Count.{member}
 use Rattle.exponent.specs.declared.position.Position.{Position}
 use Rattle.exponent.specs.declared.Shape.{Shape}
 use Rattle.walks.specs.declared.Corner.{Corner}
-use Rattle.walks.specs.declared.Step.{Step}
-use Rattle.walks.specs.declared.Step.TheVariants.{Stay, To}
 use Rattle.walks.specs.Steps.{Blocks, to_column, to_row}
 use Rattle.walks.specs.Ways.{corner, odd, root_bit, root_check, roots, ways}
-use Rattle.walks.specs.Meeting.{Result, repeat, meeting, short_cycle}
+use Rattle.walks.specs.Meeting.{repeat, meeting, short_cycle}
 
 -- a run over the ways from a root, so far: its calls, the bits that bear its stamp, and whether the last way ended at one that did
 pub record Tally : Type 0 where
@@ -24,9 +24,9 @@ called t = record { calls = suc t.calls; stamped = t.stamped; met = t.met }
 abbrev pub arrived_at : ℕ → Tally → Tally
 arrived_at b t = record { calls = t.calls; stamped = b ∷ t.stamped; met = member b t.stamped }
 
-abbrev pub on_step : Step → (Position → Tally → Tally) → Tally → Tally
-on_step Stay f t = t
-on_step (To p) f t = f p t
+abbrev pub on_step : Option Position → (Position → Tally → Tally) → Tally → Tally
+on_step None f t = t
+on_step (Some p) f t = f p t
 
 -- the turns i, i + 1, …, k of them, of a loop that returns where a way has met
 unfoldable pub turns : (ℕ → Tally → Tally) → ℕ → ℕ → Tally → Tally
@@ -51,19 +51,19 @@ unfoldable pub run : Blocks → ℕ → ℕ → List ℕ → Tally
 run B n k stamped = run_by (odd n) B (n / 2) k (record { calls = 0; stamped = stamped; met = false })
 
 -- the second run from a root, where the first has met
-abbrev pub second_calls : Blocks → ℕ → ℕ → Result → ℕ
-second_calls B n k none = 0
-second_calls B n k (some w) = (run B n k (w.end ∷ [])).calls
+abbrev pub second_calls : Blocks → ℕ → ℕ → Option Way → ℕ
+second_calls B n k None = 0
+second_calls B n k (Some w) = (run B n k (w.end ∷ [])).calls
 
 unfoldable pub root_calls : Blocks → ℕ → ℕ → ℕ
 root_calls B n k = (run B n k []).calls + second_calls B n k (repeat [] (ways B n k))
 
-abbrev pub unless_met : Result → ℕ → ℕ
-unless_met none later = later
-unless_met (some w) later = 0
+abbrev pub unless_met : Option Way → ℕ → ℕ
+unless_met None later = later
+unless_met (Some w) later = 0
 
 -- of i, i + 1, …, k of them, until one has an answer
-unfoldable pub calls_until : (ℕ → Result) → (ℕ → ℕ) → ℕ → ℕ → ℕ
+unfoldable pub calls_until : (ℕ → Option Way) → (ℕ → ℕ) → ℕ → ℕ → ℕ
 calls_until answer calls zero i = 0
 calls_until answer calls (suc k) i = let later = calls_until answer calls k (suc i) in calls i + unless_met (answer i) later
 

@@ -1,20 +1,17 @@
 -- The search for short cycles as the code makes it: an executable model. Two ways of n edges that lead from one vertex to the
 -- same bit make a cycle of 2n edges. proofs/Found.antt and proofs/Missed.antt show what it decides.
 use Rattle.std.specs.Prelude.{ℕ, zero, suc, ◌+◌, ◌*◌, Bool, true, false, cond, List, [], ◌∷◌}
-use Rattle.std.proofs.Math.Option.{Option, none, some}
+use Rattle.std.specs.Prelude.{Option, None, Some}
 use Rattle.graph.specs.Count.{member}
 use Rattle.walks.specs.Steps.{Blocks}
 use Rattle.walks.specs.Ways.{Joint, Way, odd, roots, ways}
 
 -- MEETINGS
 
-abbrev pub Result : Type 0
-Result = Option Way
-
 -- the first way that ends at a bit of `seen`, or where an earlier one ended
-unfoldable pub repeat : List ℕ → List Way → Result
-repeat seen [] = none
-repeat seen (w ∷ l) = let later = repeat (w.end ∷ seen) l in cond (member w.end seen) (some w) later
+unfoldable pub repeat : List ℕ → List Way → Option Way
+repeat seen [] = None
+repeat seen (w ∷ l) = let later = repeat (w.end ∷ seen) l in cond (member w.end seen) (Some w) later
 
 -- back along a way from its end to the bit z where it began, and on from there
 unfoldable pub back_along : ℕ → List Joint → List Joint → List Joint
@@ -34,23 +31,23 @@ join_by false z l on = back_along z l on
 abbrev pub join : Blocks → ℕ → ℕ → Way → Way → Way
 join B n k w v = record { joints = join_by (odd n) (k * B.lift + 0) w.joints v.joints; end = v.end }
 
-abbrev pub with_way : Result → (Way → Result) → Result
-with_way none f = none
-with_way (some w) f = f w
+abbrev pub with_way : Option Way → (Way → Option Way) → Option Way
+with_way None f = None
+with_way (Some w) f = f w
 
 -- the first way from root k that ends where an earlier one does, joined with that one
-unfoldable pub meeting : Blocks → ℕ → ℕ → Result
-meeting B n k = with_way (repeat [] (ways B n k)) (λ w. with_way (repeat (w.end ∷ []) (ways B n k)) (λ v. some (join B n k w v)))
+unfoldable pub meeting : Blocks → ℕ → ℕ → Option Way
+meeting B n k = with_way (repeat [] (ways B n k)) (λ w. with_way (repeat (w.end ∷ []) (ways B n k)) (λ v. Some (join B n k w v)))
 
-abbrev pub or_else : Result → Result → Result
-or_else none r = r
-or_else (some w) r = some w
+abbrev pub or_else : Option Way → Option Way → Option Way
+or_else None r = r
+or_else (Some w) r = Some w
 
 -- the first answer among f i, f (i + 1), …, k of them
-unfoldable pub first_of : (ℕ → Result) → ℕ → ℕ → Result
-first_of f zero i = none
+unfoldable pub first_of : (ℕ → Option Way) → ℕ → ℕ → Option Way
+first_of f zero i = None
 first_of f (suc k) i = let rest = first_of f k (suc i) in or_else (f i) rest
 
 -- a cycle of n checks and n bits, as round n finds it
-unfoldable pub short_cycle : Blocks → ℕ → Result
+unfoldable pub short_cycle : Blocks → ℕ → Option Way
 short_cycle B n = first_of (meeting B n) (roots B n) 0

@@ -1,9 +1,8 @@
 -- All ways of n edges from a root, in the order of the search. A way is a walk that never steps back.
+use Rattle.std.specs.Prelude.{Option, Some, None}
 use Rattle.std.specs.Prelude.{ℕ, zero, suc, ◌+◌, ◌-◌, ◌*◌, ◌/◌, ◌%◌, Bool, true, false, cond, List, [], ◌∷◌, ◌++◌, map, eqb}
 use Rattle.exponent.specs.declared.position.Position.{Position}
 use Rattle.walks.specs.declared.Corner.{Corner}
-use Rattle.walks.specs.declared.Step.{Step}
-use Rattle.walks.specs.declared.Step.TheVariants.{Stay, To}
 use Rattle.walks.specs.Steps.{Blocks, to_column, to_row}
 
 -- WAYS: the checks of a walk, each with the bit after it, and the bit at its end
@@ -21,9 +20,9 @@ abbrev pub more : Joint → Way → Way
 more e w = record { joints = e ∷ w.joints; end = w.end }
 
 -- what a step leads to
-abbrev pub and_then : {A : Type 0} → Step → (Position → List A) → List A
-and_then Stay f = []
-and_then (To p) f = f p
+abbrev pub and_then : {A : Type 0} → Option Position → (Position → List A) → List A
+and_then None f = []
+and_then (Some p) f = f p
 
 -- f i, f (i + 1), …, k of them
 unfoldable pub each : {A : Type 0} → (ℕ → List A) → ℕ → ℕ → List A

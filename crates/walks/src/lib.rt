@@ -2,11 +2,11 @@
 #![tactic(auto)]
 
 ghost use Rattle.std.specs.Prelude.{◌≡◌, ◌+◌, ◌*◌, ◌<◌, ◌≤◌};
-ghost use Rattle.walks.specs.Steps.{AtCheck, AtBit, blocks_of, to_column, to_row};
+ghost use Rattle.walks.specs.Steps.{AtCheck, AtBit, blocks, to_column, to_row};
 
 use exponent::block::Block;
+use exponent::plan::Plan;
 use exponent::position::Position;
-use exponent::{Shape, block};
 
 pub mod trail; // trail.rt: the checks and bits of a way, and two ways joined
 mod search; // search.rt: all ways on from a bit or a check, by two functions that call each other
@@ -15,15 +15,8 @@ pub mod meet; // meet.rt: two ways of n edges from one root that meet
 // A stamp for each bit.
 pub const STAMPS: usize = 65536;
 
-// A step of a walk: not taken, or to a position.
-#[derive(Clone, Copy)]
-pub enum Step {
-    Stay,
-    To(Position),
-}
-
 // The lowest row and the lowest column that a search enters.
-#[derive(Clone, Copy)]
+#[derive(Clone, Copy, Debug, PartialEq, Eq)]
 pub struct Corner {
     pub row: usize,
     pub col: usize,
@@ -37,34 +30,32 @@ pub fn number(index: usize, lift: usize, voltage: usize) -> usize
     index * lift + voltage
 }
 
-// From a check to its bit in another column.
-pub fn to_column(plan: &[i16], shape: Shape, p: Position, col: usize) -> Step
-    requires { AtCheck plan.now shape p × (col < shape.cols) }
-    ensures { result ≡ to_column (blocks_of plan.now shape) p col }
+// From a check to its bit in another column, where the block between them is filled.
+#[tactic(auto, using(exponent::proofs::Tanner::shift_low))]
+pub fn to_column(plan: &Plan, p: Position, col: usize) -> Option<Position>
+    requires { AtCheck plan.now.entries.now plan.now.shape p × (col < plan.now.shape.cols) }
+    ensures { result ≡ to_column (blocks plan.now) p col }
 {
     if col == p.col {
-        return Step::Stay;
+        return None;
     }
-    let b = block::block_at(plan, shape.cols, shape.lift, p.row, col);
-    match b {
-        Block::Zero => Step::Stay,
-        Block::Shift(e) => Step::To(p.forward(col, e, shape.lift)),
-        Block::Invalid => Step::Stay,
+    match plan.block_at(p.row, col) {
+        Block::Shift(e) => Some(p.forward(col, e, plan.shape.lift)),
+        Block::Zero | Block::Invalid => None,
     }
 }
 
-// From a bit to its check in another row.
-pub fn to_row(plan: &[i16], shape: Shape, p: Position, row: usize) -> Step
-    requires { AtBit plan.now shape p × (row < shape.rows) }
-    ensures { result ≡ to_row (blocks_of plan.now shape) p row }
+// From a bit to its check in another row, where the block between them is filled.
+#[tactic(auto, using(exponent::proofs::Tanner::shift_low))]
+pub fn to_row(plan: &Plan, p: Position, row: usize) -> Option<Position>
+    requires { AtBit plan.now.entries.now plan.now.shape p × (row < plan.now.shape.rows) }
+    ensures { result ≡ to_row (blocks plan.now) p row }
 {
     if row == p.row {
-        return Step::Stay;
+        return None;
     }
-    let b = block::block_at(plan, shape.cols, shape.lift, row, p.col);
-    match b {
-        Block::Zero => Step::Stay,
-        Block::Shift(e) => Step::To(p.back(row, e, shape.lift)),
-        Block::Invalid => Step::Stay,
+    match plan.block_at(row, p.col) {
+        Block::Shift(e) => Some(p.back(row, e, plan.shape.lift)),
+        Block::Zero | Block::Invalid => None,
     }
 }

@@ -1,30 +1,23 @@
 ghost use Rattle.std.specs.Prelude.{◌≡◌, cond, ◌+◌, ◌*◌, ◌<◌, ◌≤◌};
-ghost use Rattle.exponent.specs.Limits.{WellFormed};
-ghost use Rattle.walks.specs.Steps.{blocks_of};
+ghost use Rattle.walks.specs.Steps.{blocks};
 ghost use Rattle.walks.specs.Ways.{odd, roots, ways};
 ghost use Rattle.walks.specs.Meeting.{meeting, short_cycle};
 ghost use Rattle.walks.specs.Trail.{places};
-ghost use Rattle.walks.specs.Stamps.{Lists, Ran, Below, Answered};
+ghost use Rattle.walks.specs.Stamps.{Stamped, Ran, Below, Answered};
 
-use crate::trail::Found;
+use crate::trail::Trail;
 use crate::{Corner, search, trail};
 use exponent::Shape;
 use exponent::position::Position;
+use index::rows::Graph;
 
 // All ways of n edges from root k, held to the stamps.
-fn ways_from(
-    plan: &[i16],
-    down: &[u16],
-    along: &[u16],
-    shape: Shape,
-    n: usize,
-    k: usize,
-    seen: &mut [u16],
-    stamp: u16,
-) -> Found
-    requires { WellFormed plan.now shape.rows shape.cols shape.lift × (2 ≤ n) × (k < roots (blocks_of plan.now shape) n) × Lists plan.now shape down.now along.now seen.old }
-    ensures { Ran stamp (ways (blocks_of plan.now shape) n k) seen.old result seen.new }
+#[tactic(auto, unfolding(crate::specs::Ways::ways))]
+fn ways_from(graph: &Graph, n: usize, k: usize, seen: &mut [u16], stamp: u16) -> Option<Trail>
+    requires { (2 ≤ n) × (k < roots (blocks graph.now.rows.plan) n) × Stamped graph.now.rows.plan seen.old }
+    ensures { Ran stamp (ways (blocks graph.now.rows.plan) n k) seen.old result seen.new }
 {
+    let shape = graph.rows.plan.shape;
     let depth = n / 2;
     if n % 2 == 1 {
         let check = Position {
@@ -33,82 +26,50 @@ fn ways_from(
             voltage: 0,
         };
         let corner = Corner { row: k, col: 0 };
-        return search::at_check(plan, down, along, shape, corner, depth, check, seen, stamp);
+        search::at_check(graph, corner, depth, check, seen, stamp)
+    } else {
+        let bit = Position {
+            row: shape.rows,
+            col: k,
+            voltage: 0,
+        };
+        let corner = Corner { row: 0, col: k };
+        search::at_bit(graph, corner, depth, bit, seen, stamp)
     }
-    let bit = Position {
-        row: shape.rows,
-        col: k,
-        voltage: 0,
-    };
-    let corner = Corner { row: 0, col: k };
-    search::at_bit(plan, down, along, shape, corner, depth, bit, seen, stamp)
 }
 
 // A cycle of n checks through root k, where two ways of n edges from it meet: the end of the second is stamped for another run,
 // which finds the first. A round has 1,024 stamps, two for each root.
-fn meet_at(
-    plan: &[i16],
-    down: &[u16],
-    along: &[u16],
-    shape: Shape,
-    n: usize,
-    k: usize,
-    seen: &mut [u16],
-) -> Found
-    requires { WellFormed plan.now shape.rows shape.cols shape.lift × (2 ≤ n) × (k < roots (blocks_of plan.now shape) n) × (n ≤ places) × Lists plan.now shape down.now along.now seen.old × Below seen.old (1024 * n + 2 * k) }
-    ensures { Answered (meeting (blocks_of plan.now shape) n k) (1024 * n + 2 * k + 2) result seen.new }
+fn meet_at(graph: &Graph, n: usize, k: usize, seen: &mut [u16]) -> Option<Trail>
+    requires { (2 ≤ n) × (k < roots (blocks graph.now.rows.plan) n) × (n ≤ places) × Stamped graph.now.rows.plan seen.old × Below seen.old (1024 * n + 2 * k) }
+    ensures { Answered (meeting (blocks graph.now.rows.plan) n k) (1024 * n + 2 * k + 2) result seen.new }
 {
     let stamp = (1024 * n + 2 * k) as u16;
-    let f = ways_from(plan, down, along, shape, n, k, seen, stamp);
-    match f {
-        Found::Nothing => Found::Nothing,
-        Found::Met(w) => {
-            let end = w.end;
-            let next = stamp + 1;
-            seen[end] = next;
-            let g = ways_from(plan, down, along, shape, n, k, seen, next);
-            match g {
-                Found::Nothing => Found::Nothing,
-                Found::Met(v) => {
-                    let z = crate::number(k, shape.lift, 0);
-                    Found::Met(trail::join(n, z, w, v))
-                }
-            }
-        }
-    }
+    let first = ways_from(graph, n, k, seen, stamp)?;
+    let next = stamp + 1;
+    seen[first.end] = next;
+    let second = ways_from(graph, n, k, seen, next)?;
+    let z = crate::number(k, graph.rows.plan.shape.lift, 0);
+    Some(trail::join(n, z, first, second))
 }
 
 // How many roots round n has: a bit of each column, or a check of each row.
 fn root_count(shape: Shape, n: usize) -> usize
     ensures { result ≡ cond (odd n) shape.rows shape.cols }
 {
-    if n % 2 == 0 {
-        return shape.cols;
-    }
-    shape.rows
+    if n % 2 == 0 { shape.cols } else { shape.rows }
 }
 
 // A cycle of n checks, where there is none of fewer.
-pub fn short_cycle(
-    plan: &[i16],
-    down: &[u16],
-    along: &[u16],
-    shape: Shape,
-    n: usize,
-    seen: &mut [u16],
-) -> Found
-    requires { WellFormed plan.now shape.rows shape.cols shape.lift × (2 ≤ n) × (n ≤ places) × Lists plan.now shape down.now along.now seen.old × Below seen.old (1024 * n) }
-    ensures { Answered (short_cycle (blocks_of plan.now shape) n) (1024 * (n + 1)) result seen.new }
+pub fn short_cycle(graph: &Graph, n: usize, seen: &mut [u16]) -> Option<Trail>
+    requires { (2 ≤ n) × (n ≤ places) × Stamped graph.now.rows.plan seen.old × Below seen.old (1024 * n) }
+    ensures { Answered (short_cycle (blocks graph.now.rows.plan) n) (1024 * (n + 1)) result seen.new }
 {
-    let count = root_count(shape, n);
-    let mut k = 0;
-    while k < count {
-        let root = k;
-        k += 1;
-        let f = meet_at(plan, down, along, shape, n, root, seen);
-        if let Found::Met(t) = f {
-            return Found::Met(t);
+    for k in 0..root_count(graph.rows.plan.shape, n) {
+        let met = meet_at(graph, n, k, seen);
+        if met.is_some() {
+            return met;
         }
     }
-    Found::Nothing
+    None
 }

@@ -2,7 +2,7 @@
 use Prim.Native.Nat.{ℕ}
 use mathlib.Core.Path.{◌≡◌, refl}
 use mathlib.Core.List.{List, [], ◌∷◌}
-use mathlib.Core.Option.{Option, none, some}
+use Rattle.std.specs.Prelude.{Option, None, Some}
 use lib.IntN.{ℤ, pos, negsuc}
 use Rattle.refusal.specs.declared.Refusal.{Refusal}
 use Rattle.refusal.specs.declared.Refusal.TheVariants.{Rows, PlanLength, Entry, BlockPlace, Weights}
@@ -45,20 +45,20 @@ record Case : Type 0 where
 abbrev cases : List Case
 cases =
     -- 1 before all else; 5
-    record { rows = 0; row = 2; col = 2; entry = negsuc 1; lent = held [] [] []; answer = some Rows }
-    ∷ record { rows = 3; row = 3; col = 2; entry = negsuc 1; lent = full; answer = some PlanLength }
+    record { rows = 0; row = 2; col = 2; entry = negsuc 1; lent = held [] [] []; answer = Some Rows }
+    ∷ record { rows = 3; row = 3; col = 2; entry = negsuc 1; lent = full; answer = Some PlanLength }
     -- 6 of the plan's own entry, then of the new one, with place R × C, before 24
-    ∷ record { rows = 2; row = 2; col = 2; entry = negsuc 1; lent = held (pos 0 ∷ negsuc 5 ∷ pos 0 ∷ pos 1 ∷ []) [] []; answer = some (Entry 1) }
-    ∷ record { rows = 2; row = 2; col = 2; entry = negsuc 1; lent = held corner [] []; answer = some (Entry 4) }
+    ∷ record { rows = 2; row = 2; col = 2; entry = negsuc 1; lent = held (pos 0 ∷ negsuc 5 ∷ pos 0 ∷ pos 1 ∷ []) [] []; answer = Some (Entry 1) }
+    ∷ record { rows = 2; row = 2; col = 2; entry = negsuc 1; lent = held corner [] []; answer = Some (Entry 4) }
     -- 24 of row R and of column C, before 25
-    ∷ record { rows = 2; row = 2; col = 0; entry = pos 0; lent = held corner [] []; answer = some BlockPlace }
-    ∷ record { rows = 2; row = 0; col = 2; entry = pos 0; lent = held corner [] []; answer = some BlockPlace }
+    ∷ record { rows = 2; row = 2; col = 0; entry = pos 0; lent = held corner [] []; answer = Some BlockPlace }
+    ∷ record { rows = 2; row = 0; col = 2; entry = pos 0; lent = held corner [] []; answer = Some BlockPlace }
     -- 25: a row weight missing, one too many, a wrong count of a column
-    ∷ record { rows = 2; row = 0; col = 0; entry = pos 0; lent = held corner (2 ∷ []) (2 ∷ 2 ∷ []); answer = some Weights }
-    ∷ record { rows = 2; row = 0; col = 0; entry = pos 0; lent = held corner (2 ∷ 2 ∷ 0 ∷ []) (2 ∷ 2 ∷ []); answer = some Weights }
-    ∷ record { rows = 2; row = 0; col = 0; entry = pos 0; lent = held corner (2 ∷ 2 ∷ []) (2 ∷ 1 ∷ []); answer = some Weights }
+    ∷ record { rows = 2; row = 0; col = 0; entry = pos 0; lent = held corner (2 ∷ []) (2 ∷ 2 ∷ []); answer = Some Weights }
+    ∷ record { rows = 2; row = 0; col = 0; entry = pos 0; lent = held corner (2 ∷ 2 ∷ 0 ∷ []) (2 ∷ 2 ∷ []); answer = Some Weights }
+    ∷ record { rows = 2; row = 0; col = 0; entry = pos 0; lent = held corner (2 ∷ 2 ∷ []) (2 ∷ 1 ∷ []); answer = Some Weights }
     -- and a call that is taken
-    ∷ record { rows = 2; row = 1; col = 1; entry = pos 0; lent = full; answer = none }
+    ∷ record { rows = 2; row = 1; col = 1; entry = pos 0; lent = full; answer = None }
     ∷ []
 
 abbrev Hold : List Case → Type 0

@@ -3,7 +3,7 @@ use Prim.Native.Nat.{ℕ, zero, suc, ◌+◌, ◌*◌}
 use mathlib.Core.Path.{◌≡◌, refl, sym, ap, subst, ◌∙◌}
 use mathlib.Core.Logic.{◌≢◌}
 use mathlib.Core.List.{List, [], ◌∷◌}
-use mathlib.Core.Option.{Option, none, some}
+use Rattle.std.specs.Prelude.{Option, None, Some}
 use lib.IntN.{ℤ, pos, negsuc}
 use lib.ListN.{length, get_or}
 use lib.Seq.{get_or-set_other}
@@ -64,24 +64,24 @@ weights_same plan s t p q side =
 
 -- ONE CALL: what it leaves where it is taken, and where it is refused
 module _ (c : Call) (h : Held) where
-  pub taken : refusal_of c h ≡ none → after c h ≡ with_weights (new_plan c h) c.shape
+  pub taken : refusal_of c h ≡ None → after c h ≡ with_weights (new_plan c h) c.shape
   unfolding after
   taken e = rw e
 
-  pub stays : (r : Refusal) → refusal_of c h ≡ some r → after c h ≡ h
+  pub stays : (r : Refusal) → refusal_of c h ≡ Some r → after c h ≡ h
   unfolding after
   stays r e = rw e
 
-  pub was_accepted : refusal_of c h ≡ none → Accepted h.plan c.shape c.at c.entry h.rows h.cols
+  pub was_accepted : refusal_of c h ≡ None → Accepted h.plan c.shape c.at c.entry h.rows h.cols
   unfolding refusal_of
   was_accepted e = (accepted h.plan c.shape c.at c.entry h.rows h.cols).0 e
 
-  by_refusal : (P : Held → Type 0) → (refusal_of c h ≡ none → P (with_weights (new_plan c h) c.shape)) → P h → P (after c h)
+  by_refusal : (P : Held → Type 0) → (refusal_of c h ≡ None → P (with_weights (new_plan c h) c.shape)) → P h → P (after c h)
   by_refusal P f g = step (refusal_of c h) refl
     where
       step : (o : Option Refusal) → refusal_of c h ≡ o → P (after c h)
-      step none e = subst P (sym (taken e)) (f e)
-      step (some r) e = subst P (sym (stays r e)) g
+      step None e = subst P (sym (taken e)) (f e)
+      step (Some r) e = subst P (sym (stays r e)) g
 
   -- nothing else moves, whatever is lent
   pub only_there : OnlyThere c h (after c h)
@@ -111,10 +111,10 @@ module _ (c : Call) (h : Held) where
 
   module _ (s : Shape) (true-before : Counted s h) where
     -- a call that is taken names the plan's rows and columns: the lists tell them
-    same_rows : refusal_of c h ≡ none → c.shape.rows ≡ s.rows
+    same_rows : refusal_of c h ≡ None → c.shape.rows ≡ s.rows
     same_rows e = sym (length_weights h.plan c.shape Checks) ∙ ap length (sym (was_accepted e).weighed.rows_right ∙ true-before.weighed.rows_right) ∙ length_weights h.plan s Checks
 
-    same_cols : refusal_of c h ≡ none → c.shape.cols ≡ s.cols
+    same_cols : refusal_of c h ≡ None → c.shape.cols ≡ s.cols
     same_cols e = sym (length_weights h.plan c.shape Bits) ∙ ap length (sym (was_accepted e).weighed.cols_right ∙ true-before.weighed.cols_right) ∙ length_weights h.plan s Bits
 
     -- the lists stay true
@@ -158,7 +158,7 @@ still_weighed s h c t p q =
     let same = weights_same h.plan s t (sym p) (sym q) in
     record { rows_right = c.weighed.rows_right ∙ same Checks; cols_right = c.weighed.cols_right ∙ same Bits }
 
-pub never_25 : (s : Shape) (h : Held) → Counted s h → (c : Call) → c.shape.rows ≡ s.rows → c.shape.cols ≡ s.cols → refusal_of c h ≢ some Weights
+pub never_25 : (s : Shape) (h : Held) → Counted s h → (c : Call) → c.shape.rows ≡ s.rows → c.shape.cols ≡ s.cols → refusal_of c h ≢ Some Weights
 unfolding refusal_of
 never_25 s h t c p q e =
     let found = (right_exactly h.plan c.shape h.rows h.cols).1 (still_weighed s h t c.shape p q) in

@@ -3,7 +3,7 @@ use Prim.Native.Nat.{ℕ}
 use mathlib.Core.Path.{◌≡◌, refl}
 use mathlib.Core.Logic.{◌≢◌}
 use mathlib.Core.List.{[]}
-use mathlib.Core.Option.{none, some}
+use Rattle.std.specs.Prelude.{None, Some}
 use borrow.Author.Tests.{eqb-true, eq-eqb, ne_eqb, not-false}
 use lib.Dec.{eqb}
 use Rattle.refusal.specs.declared.Refusal.TheVariants.{Weights}
@@ -14,13 +14,13 @@ use Rattle.weights.specs.declared.Room.{Room}
 use Rattle.weights.specs.Weights.{length_rules}
 
 module _ (room : Room) (rows cols : ℕ) where
-  pub lengths_fit : room.rows ≡ rows → room.cols ≡ cols → lowest (length_rules room rows cols) ≡ none
+  pub lengths_fit : room.rows ≡ rows → room.cols ≡ cols → lowest (length_rules room rows cols) ≡ None
   lengths_fit p q = (none_holds (length_rules room rows cols)).1 (rw (eq-eqb room.rows rows p, eq-eqb room.cols cols q) refl, tt)
 
-  pub rows_unfit : room.rows ≢ rows → lowest (length_rules room rows cols) ≡ some Weights
+  pub rows_unfit : room.rows ≢ rows → lowest (length_rules room rows cols) ≡ Some Weights
   rows_unfit h = lowest_here _ _ [] (rw (ne_eqb room.rows rows h))
 
-  pub cols_unfit : room.cols ≢ cols → lowest (length_rules room rows cols) ≡ some Weights
+  pub cols_unfit : room.cols ≢ cols → lowest (length_rules room rows cols) ≡ Some Weights
   cols_unfit h = lowest_here _ _ [] (by_bool (eqb room.rows rows) (λ e. rw (e, ne_eqb room.cols cols h)) (λ e. rw e))
 
   pub fit_lengths : NoneHolds (length_rules room rows cols) → (room.rows ≡ rows) × (room.cols ≡ cols)

@@ -2,10 +2,11 @@
 -- the call is accepted. Assumes nothing.
 use Prim.Native.Nat.{ℕ, suc, ◌+◌, ◌≤◌, ◌<◌}
 use mathlib.Core.Path.{◌≡◌, refl, sym, ap, ◌∙◌}
-use mathlib.Core.Logic.{◌↔◌}
+use mathlib.Core.Logic.{◌↔◌, ◌⊎◌, inl, inr}
 use mathlib.Core.Bool.{Bool, true, false, not, ◌&&◌}
 use mathlib.Core.List.{List, [], ◌∷◌, ◌++◌}
-use mathlib.Core.Option.{Option, none, some, none-ne-some}
+use Rattle.std.specs.Prelude.{Option, None, Some}
+use Rattle.std.proofs.lemmas.Option.{none-some}
 use native.Mathlib.Omega.{arith}
 use borrow.Author.Tests.{ltb-true, lt-ltb, le-ltb, not-false}
 use lib.Dec.{ltb}
@@ -76,26 +77,26 @@ module _ (plan : List ℤ) (s : Shape) (at : At) (entry : ℤ) (rows cols : List
   Rest = own_rules plan s at entry rows cols
 
   -- the plan's own refusals first
-  pub plan_refused : (r : Refusal) → lowest (plan_rules plan s.rows s.cols s.lift) ≡ some r → lowest (change_rules plan s at entry rows cols) ≡ some r
+  pub plan_refused : (r : Refusal) → lowest (plan_rules plan s.rows s.cols s.lift) ≡ Some r → lowest (change_rules plan s at entry rows cols) ≡ Some r
   unfolding plan_rules change_rules
   plan_refused r e = by (lowest Sizes) refl
     where
-      own : somewhere (invalid_entry s.lift) plan ≡ true → some (Entry (first_place (invalid_entry s.lift) plan)) ≡ some r → lowest Rest ≡ some r
+      own : somewhere (invalid_entry s.lift) plan ≡ true → Some (Entry (first_place (invalid_entry s.lift) plan)) ≡ Some r → lowest Rest ≡ Some r
       own t q =
           lowest_here _ _ _ (found (invalid_entry s.lift) entry plan t)
-          ∙ ap (λ (p : ℕ). some (Entry p)) (first_found (invalid_entry s.lift) entry plan (ltb-true _ _ t))
+          ∙ ap (λ (p : ℕ). Some (Entry p)) (first_found (invalid_entry s.lift) entry plan (ltb-true _ _ t))
           ∙ q
 
-      by : (o : Option Refusal) → lowest Sizes ≡ o → lowest (Sizes ++ Rest) ≡ some r
-      by (some q) p = lowest_refused Sizes Rest q p ∙ sym (lowest_refused Sizes (entry_rules s.lift plan) q p) ∙ e
-      by none p =
+      by : (o : Option Refusal) → lowest Sizes ≡ o → lowest (Sizes ++ Rest) ≡ Some r
+      by (Some q) p = lowest_refused Sizes Rest q p ∙ sym (lowest_refused Sizes (entry_rules s.lift plan) q p) ∙ e
+      by None p =
           let f = sym (lowest_accepted Sizes (entry_rules s.lift plan) p) ∙ e in
           lowest_accepted Sizes Rest p
           ∙ by_bool (somewhere (invalid_entry s.lift) plan)
           (λ t. own t (sym (lowest_here _ _ _ t) ∙ f))
-          (λ t. absurd (none-ne-some r (sym ((none_holds []).1 tt) ∙ sym (lowest_next _ _ [] t) ∙ f)))
+          (λ t. absurd (none-some r (sym ((none_holds []).1 tt) ∙ sym (lowest_next _ _ [] t) ∙ f)))
 
-  pub plan_accepted : lowest (plan_rules plan s.rows s.cols s.lift) ≡ none → lowest (change_rules plan s at entry rows cols) ≡ lowest Rest
+  pub plan_accepted : lowest (plan_rules plan s.rows s.cols s.lift) ≡ None → lowest (change_rules plan s at entry rows cols) ≡ lowest Rest
   unfolding plan_rules change_rules
   plan_accepted e = lowest_accepted Sizes Rest ((none_append Sizes (entry_rules s.lift plan)).0 e).0
 
@@ -105,39 +106,37 @@ module _ (plan : List ℤ) (s : Shape) (at : At) (entry : ℤ) (rows cols : List
     own_none = ((none_holds _).0 ((none_append Sizes _).0 ((plan_laws.accepted plan s.rows s.cols s.lift).1 w)).1).0
 
     -- then the new entry
-    pub entry_refused : invalid_entry s.lift entry ≡ true → lowest Rest ≡ some (Entry (length plan))
+    pub entry_refused : invalid_entry s.lift entry ≡ true → lowest Rest ≡ Some (Entry (length plan))
     entry_refused t =
         let (p, q) = at_end (invalid_entry s.lift) entry plan own_none t in
-        lowest_here _ _ _ q ∙ ap (λ (p : ℕ). some (Entry p)) p
+        lowest_here _ _ _ q ∙ ap (λ (p : ℕ). Some (Entry p)) p
 
     pub entry_accepted : invalid_entry s.lift entry ≡ false → lowest Rest ≡ lowest (block_rules s at ++ weight_rules plan s rows cols)
     entry_accepted t = lowest_next _ _ _ (nowhere (invalid_entry s.lift) entry plan own_none t)
 
   -- then the block's place, and the lists
-  pub row_out : s.rows ≤ at.row → lowest (block_rules s at ++ weight_rules plan s rows cols) ≡ some BlockPlace
-  row_out h = lowest_here _ _ _ (rw (le-ltb at.row s.rows h))
-
-  pub col_out : s.cols ≤ at.col → lowest (block_rules s at ++ weight_rules plan s rows cols) ≡ some BlockPlace
-  col_out h = lowest_here _ _ _ (by_bool (ltb at.row s.rows) (λ e. rw (e, le-ltb at.col s.cols h)) (λ e. rw e))
+  pub block_out : (s.rows ≤ at.row) ⊎ ((at.row < s.rows) × (s.cols ≤ at.col)) → lowest (block_rules s at ++ weight_rules plan s rows cols) ≡ Some BlockPlace
+  block_out (inl h) = lowest_here _ _ _ (rw (le-ltb at.row s.rows h))
+  block_out (inr (h, k)) = lowest_here _ _ _ (rw (lt-ltb at.row s.rows h, le-ltb at.col s.cols k))
 
   pub block_in : at.row < s.rows → at.col < s.cols → lowest (block_rules s at ++ weight_rules plan s rows cols) ≡ lowest (weight_rules plan s rows cols)
   block_in h k = lowest_next _ _ _ (rw (lt-ltb at.row s.rows h, lt-ltb at.col s.cols k))
 
   -- THE LAW: nothing applies exactly where the call is accepted
-  pub accepted : (lowest (change_rules plan s at entry rows cols) ≡ none) ↔ Accepted plan s at entry rows cols
+  pub accepted : (lowest (change_rules plan s at entry rows cols) ≡ None) ↔ Accepted plan s at entry rows cols
   accepted = (gives, takes)
     where
-      own : (o : Option Refusal) → lowest (plan_rules plan s.rows s.cols s.lift) ≡ o → lowest (change_rules plan s at entry rows cols) ≡ none → o ≡ none
-      own none p e = refl
-      own (some r) p e = absurd (none-ne-some r (sym e ∙ plan_refused r p))
+      own : (o : Option Refusal) → lowest (plan_rules plan s.rows s.cols s.lift) ≡ o → lowest (change_rules plan s at entry rows cols) ≡ None → o ≡ None
+      own None p e = refl
+      own (Some r) p e = absurd (none-some r (sym e ∙ plan_refused r p))
 
-      gives : lowest (change_rules plan s at entry rows cols) ≡ none → Accepted plan s at entry rows cols
+      gives : lowest (change_rules plan s at entry rows cols) ≡ None → Accepted plan s at entry rows cols
       gives e =
-          let p : lowest (plan_rules plan s.rows s.cols s.lift) ≡ none = own _ refl e in
+          let p : lowest (plan_rules plan s.rows s.cols s.lift) ≡ None = own _ refl e in
           let w = (plan_laws.accepted plan s.rows s.cols s.lift).0 p in
-          let f : lowest Rest ≡ none = sym (plan_accepted p) ∙ e in
+          let f : lowest Rest ≡ None = sym (plan_accepted p) ∙ e in
           by_bool (invalid_entry s.lift entry)
-          (λ t. absurd (none-ne-some (Entry (length plan)) (sym f ∙ entry_refused w t)))
+          (λ t. absurd (none-some (Entry (length plan)) (sym f ∙ entry_refused w t)))
           (λ t.
           let (b, (r, _)) = (none_holds (block_rules s at ++ weight_rules plan s rows cols)).0 (sym (entry_accepted w t) ∙ f) in
           let i = not-false (ltb at.row s.rows && ltb at.col s.cols) b in
@@ -149,7 +148,7 @@ module _ (plan : List ℤ) (s : Shape) (at : At) (entry : ℤ) (rows cols : List
             weighed = (right_exactly plan s rows cols).0 (not-false (right plan s rows cols) r);
           })
 
-      takes : Accepted plan s at entry rows cols → lowest (change_rules plan s at entry rows cols) ≡ none
+      takes : Accepted plan s at entry rows cols → lowest (change_rules plan s at entry rows cols) ≡ None
       takes a =
           plan_accepted ((plan_laws.accepted plan s.rows s.cols s.lift).1 a.well)
           ∙ entry_accepted a.well a.valid
@@ -159,6 +158,6 @@ module _ (plan : List ℤ) (s : Shape) (at : At) (entry : ℤ) (rows cols : List
           )
 
   -- 25 falls only on lists that are found wrong: the refusals before it have lower numbers
-  pub not_weights : right plan s rows cols ≡ true → lowest (change_rules plan s at entry rows cols) ≡ some Weights → ⊥
+  pub not_weights : right plan s rows cols ≡ true → lowest (change_rules plan s at entry rows cols) ≡ Some Weights → ⊥
   unfolding change_rules
   not_weights t e = not_after (Sizes ++ entry_rules s.lift (plan ++ entry ∷ []) ++ block_rules s at) (weight_rules plan s rows cols) Weights refl (lists_right plan s rows cols t) e

@@ -1,10 +1,10 @@
 -- Laws of the weights of a plan's sides: as counts, as lists, and when two lists are those of the plan. Assumes nothing.
 use Prim.Native.Nat.{ℕ, ◌≤◌, ◌<◌}
 use mathlib.Core.Path.{◌≡◌, refl, sym, ap, ap₂, ◌∙◌}
-use mathlib.Core.Logic.{◌↔◌}
+use mathlib.Core.Logic.{◌↔◌, ◌≢◌}
 use mathlib.Core.Bool.{Bool, true, false, not}
 use mathlib.Core.List.{List, [], ◌∷◌}
-use mathlib.Core.Option.{none, some}
+use Rattle.std.specs.Prelude.{None, Some}
 use native.Mathlib.Omega.{arith}
 use borrow.Author.Tests.{eqb-true, eq-eqb}
 use lib.Dec.{eqb}
@@ -14,6 +14,9 @@ use lib.Seq.{ext_get_or}
 use Rattle.refusal.specs.declared.Refusal.TheVariants.{Weights}
 use Rattle.refusal.specs.Lowest.{lowest}
 use Rattle.refusal.proofs.Lowest.{lowest_here}
+use Rattle.std.specs.Bool.{MatchBool}
+use Rattle.std.specs.List.{range_with_len, AllWithin, HoldsAt}
+use Rattle.std.proofs.lemmas.List.FromFn.{length-range_with_len, get_or-range_with_len}
 use Rattle.graph.specs.Count.{below, count}
 use Rattle.graph.proofs.Count.{count_le, length_range, get_or_map_below, length_map_below}
 use Rattle.graph.proofs.Decide.{both_ways, and_left, and_right, and_both}
@@ -61,6 +64,16 @@ module _ (s : Shape) (side : Side) (few_rows : s.rows ≤ 192) (few_cols : s.col
       by Bits = few_cols
       by Checks = omega arith
 
+-- the places of a list, as a chain goes over them
+abbrev pub places : List ℕ → List ℕ
+places l = range_with_len 0 (length l)
+
+places_length : (l : List ℕ) → length (places l) ≡ length l
+places_length l = length-range_with_len 0 (length l)
+
+place_at : (l : List ℕ) (i : ℕ) → i < length l → get_or (places l) i 0 ≡ i
+place_at l i h = get_or-range_with_len 0 (length l) i 0 h ∙ omega arith
+
 module _ (plan : List ℤ) (s : Shape) (side : Side) where
   -- A LANE: its weight is a count, and at most the number of its blocks
   pub weight_count : (lane : ℕ) → weight_of plan s side lane ≡ count (filled_on plan s side lane) (below (blocks s side))
@@ -88,6 +101,21 @@ module _ (plan : List ℤ) (s : Shape) (side : Side) where
       → l ≡ weights_of plan s side
   weights_by l n all = ext_get_or 0 l (weights_of plan s side) (n ∙ sym length_weights) (λ i h. all i (omega arith) ∙ sym (weights_at i (omega arith)))
 
+  -- what `all` over a list of that length answers
+  abbrev pub Right : List ℕ → ℕ → Type 0
+  Right l lane = get_or l lane 0 ≡ weight_of plan s side lane
+
+  abbrev pub Wrong : List ℕ → ℕ → Type 0
+  Wrong l lane = get_or l lane 0 ≢ weight_of plan s side lane
+
+  pub same_counts : (l : List ℕ) → length l ≡ lanes s side → (r : Bool)
+      → MatchBool r (AllWithin (Right l) (places l) 0 (length (places l))) ((lane : ℕ) × (lane < length (places l)) × HoldsAt (Wrong l) (places l) lane)
+      → r ≡ same l (weights_of plan s side)
+  same_counts l n true all = sym ((same_exactly l _).1 (weights_by l n λ i h. rw (place_at l i (omega arith)) at (all i 0 (omega arith) (omega (arith, places_length l)))))
+  same_counts l n false (lane, h, other) =
+      let k : lane < length l = omega (arith, places_length l) in
+      sym (not_same l _ λ e. rw (place_at l lane k) at (other 0) (ap (λ (m : List ℕ). get_or m lane 0) e ∙ weights_at lane (omega arith)))
+
   -- a weight is at most the number of a lane's blocks, and small
   pub weight_le : (lane : ℕ) → weight_of plan s side lane ≤ blocks s side
   weight_le lane = omega (arith, weight_count lane, count_few lane (blocks s side))
@@ -108,11 +136,11 @@ module _ (plan : List ℤ) (s : Shape) (rows cols : List ℕ) where
     λ h. and_both _ _ ((same_exactly rows _).1 h.rows_right) ((same_exactly cols _).1 h.cols_right),
   )
 
-  pub lists_right : right plan s rows cols ≡ true → lowest (weight_rules plan s rows cols) ≡ none
+  pub lists_right : right plan s rows cols ≡ true → lowest (weight_rules plan s rows cols) ≡ None
   unfolding lowest
   lists_right e = rw e
 
-  pub lists_wrong : right plan s rows cols ≡ false → lowest (weight_rules plan s rows cols) ≡ some Weights
+  pub lists_wrong : right plan s rows cols ≡ false → lowest (weight_rules plan s rows cols) ≡ Some Weights
   lists_wrong e = lowest_here _ _ [] (ap not e)
 
   -- the weight of a lane stands in its list

@@ -1,6 +1,6 @@
 -- One block changed (document 02, slip 7): the answer of the call, and what the plan and the two lists of weights then hold.
 use Rattle.std.specs.Prelude.{ℕ, ◌+◌, ◌*◌, ◌<◌, ◌≡◌, false, not, ◌&&◌, List, [], ◌∷◌, ◌++◌, ltb, ℤ, length, set}
-use Rattle.std.proofs.Math.Option.{Option, none, some}
+use Rattle.std.specs.Prelude.{Option}
 use Rattle.refusal.specs.declared.Refusal.{Refusal}
 use Rattle.refusal.specs.declared.Refusal.TheVariants.{BlockPlace}
 use Rattle.refusal.specs.Lowest.{Rule, refuse, lowest}
@@ -9,8 +9,6 @@ use Rattle.exponent.specs.declared.Shape.{Shape}
 use Rattle.exponent.specs.Plan.{invalid_entry}
 use Rattle.exponent.specs.Limits.{size_rules, entry_rules, WellFormed}
 use Rattle.weights.specs.declared.change.At.{At}
-use Rattle.weights.specs.declared.change.Changed.{Changed as ChangedAnswer}
-use Rattle.weights.specs.declared.change.Changed.TheVariants.{Changed, Refused}
 use Rattle.weights.specs.Weights.{shape_of, Held, with_weights, Weighed, weight_rules}
 
 -- 24: the block lies outside the plan
@@ -23,11 +21,6 @@ own_rules plan s at entry rows cols = entry_rules s.lift (plan ++ entry ∷ []) 
 
 unfoldable pub change_rules : List ℤ → Shape → At → ℤ → List ℕ → List ℕ → List Rule
 change_rules plan s at entry rows cols = size_rules (length plan) s.rows s.cols s.lift ++ own_rules plan s at entry rows cols
-
--- the answer
-abbrev pub changed : Option Refusal → ChangedAnswer
-changed none = Changed
-changed (some r) = Refused r
 
 -- the plan with the new entry
 unfoldable pub stored : List ℤ → Shape → At → ℤ → List ℤ

@@ -2,8 +2,6 @@
 #![tactic(auto)]
 
 ghost use Rattle.std.specs.Prelude.{◌≡◌, ◌<◌, length, get_or};
-ghost use Rattle.graph.specs.Count.{one};
-ghost use Rattle.exponent.specs.Plan.{filled};
 ghost use Rattle.exponent.specs.Limits.{WellFormed};
 ghost use Rattle.weights.specs.declared.Side.TheVariants.{Bits, Checks};
 ghost use Rattle.weights.specs.Weights.{lanes, blocks, block_on, weight_of, list_of, weights_of, same, right};
@@ -19,14 +17,14 @@ pub const ROWS: usize = 192;
 pub const COLS: usize = 512;
 
 // The two sides of the graph. A bit's blocks are those of its column, a check's those of its row: a lane of blocks.
-#[derive(Clone, Copy)]
+#[derive(Clone, Copy, Debug, PartialEq, Eq)]
 pub enum Side {
     Bits,
     Checks,
 }
 
 // How many numbers the lists have that are lent to a builder: the plan, its row weights and its column weights.
-#[derive(Clone, Copy)]
+#[derive(Clone, Copy, Debug, PartialEq, Eq)]
 pub struct Room {
     pub plan: usize,
     pub rows: usize,
@@ -64,43 +62,29 @@ pub fn block_on(plan: &[i16], s: Shape, side: Side, lane: usize, k: usize) -> Bl
     }
 }
 
-// 1 for a filled block, else 0.
-fn filled_one(b: Block) -> usize
-    ensures { result ≡ one (filled b) }
-{
-    match b {
-        Block::Zero => 0,
-        Block::Shift(_) => 1,
-        Block::Invalid => 0,
-    }
-}
-
 // How many blocks of a lane are filled.
+#[tactic(auto, using(graph::proofs::Count::count_last, crate::proofs::Weights::weight_count, crate::proofs::Weights::count_few, crate::proofs::Weights::blocks_few), unfolding(graph::specs::Count::count, graph::specs::Count::range))]
 pub fn weight(plan: &[i16], s: Shape, side: Side, lane: usize) -> usize
     requires { WellFormed plan.now s.rows s.cols s.lift × (lane < lanes s side) }
     ensures { result ≡ weight_of plan.now s side lane }
 {
-    let limit = blocks(s, side);
     let mut n = 0;
-    let mut k = 0;
-    while k < limit {
-        let b = block_on(plan, s, side, lane, k);
-        n += filled_one(b);
-        k += 1;
+    for k in 0..blocks(s, side) {
+        if block_on(plan, s, side, lane, k).is_filled() {
+            n += 1;
+        }
     }
     n
 }
 
 // Fills the list of a side.
+#[tactic(auto, using(crate::proofs::Weights::weight_few, crate::proofs::Weights::weights_by))]
 fn fill_side(plan: &[i16], s: Shape, side: Side, list: &mut [u16])
     requires { WellFormed plan.now s.rows s.cols s.lift × (length list.old ≡ lanes s side) }
     ensures { list.new ≡ weights_of plan.now s side }
 {
-    let mut lane = 0;
-    while lane < list.len() {
-        let w = weight(plan, s, side, lane);
-        list[lane] = w as u16;
-        lane += 1;
+    for lane in 0..list.len() {
+        list[lane] = weight(plan, s, side, lane) as u16;
     }
 }
 
@@ -138,27 +122,15 @@ fn is_side(plan: &[i16], s: Shape, side: Side, list: &[u16]) -> bool
     requires { WellFormed plan.now s.rows s.cols s.lift }
     ensures { result ≡ same list.now (weights_of plan.now s side) }
 {
-    if list.len() != lanes(s, side) {
-        return false;
-    }
-    let mut lane = 0;
-    while lane < list.len() {
-        let w = weight(plan, s, side, lane);
-        if at(list, lane) != w {
-            return false;
-        }
-        lane += 1;
-    }
-    true
+    list.len() == lanes(s, side)
+        && (0..list.len()).all(|lane| at(list, lane) == weight(plan, s, side, lane))
 }
 
 // Whether both lists are those of the plan.
+#[tactic(auto, unfolding(crate::specs::Weights::right))]
 pub fn are_right(plan: &[i16], s: Shape, byrow: &[u16], bycol: &[u16]) -> bool
     requires { WellFormed plan.now s.rows s.cols s.lift }
     ensures { result ≡ right plan.now s byrow.now bycol.now }
 {
-    if is_side(plan, s, Side::Checks, byrow) {
-        return is_side(plan, s, Side::Bits, bycol);
-    }
-    false
+    is_side(plan, s, Side::Checks, byrow) && is_side(plan, s, Side::Bits, bycol)
 }

@@ -1,3 +1,2 @@
 pub mod Unmarking
-pub mod Waiting
 pub mod Steps

@@ -19,9 +19,7 @@ use Rattle.graph.proofs.Count.{nodup_range, count_le, count_less}
 use Rattle.graph.proofs.Neighbours.{below_mem}
 use Rattle.graph.proofs.Peeling.{erased_low, erasures_count}
 use Rattle.graph.proofs.Filling.{derived_set}
-use Rattle.worklist.specs.declared.Fill.{Fill}
-use Rattle.worklist.specs.declared.Fill.TheVariants.{Nothing, Bit}
-use Rattle.worklist.specs.Work.{unmarked, Worked, FilledCheck, stayed, filled, Passed, Peeled}
+use Rattle.worklist.specs.Work.{unmarked, Worked, Passed, Peeled}
 use Rattle.worklist.proofs.Unmarking.{unmarked_high}
 
 module _ {G : Bipartite} where
@@ -40,6 +38,9 @@ module _ {G : Bipartite} where
   pub worked_few : {p q : List ℕ} {n : ℕ} → Worked G p q n → n ≤ length p
   unfolding erasures
   worked_few {p} x = omega (arith, x.fewer, count_le (λ b. eqb b 2) p)
+
+  pub worked_room : {p q r : List ℕ} {m n : ℕ} → Worked G p q m → Worked G q r n → m + n ≤ length p
+  worked_room x y = worked_few (worked_then x y)
 
   -- the only erasure of a check is filled with the check's parity
   pub fill_one : (c b : ℕ) {p : List ℕ} → c < G.checks → count (erased p) (bits_of G c) ≡ 1 → Mem b (bits_of G c) → erased p b ≡ true
@@ -82,28 +83,13 @@ module _ {G : Bipartite} where
 
   -- Checks looked at
 
-  pub passed_none : {a : ℕ} {p : List ℕ} → Passed G a a p p 0
-  passed_none = record { worked = worked_none; idle = λ z. (refl, λ c l h e. omega arith) }
-
-  pub passed_skip : {a : ℕ} {p : List ℕ} → count (erased p) (bits_of G a) ≢ 1 → Passed G a (a + 1) p p 0
-  passed_skip {a} {p} n =
-      record {
+  pub passed_skip : {a : ℕ} {p q : List ℕ} → count (erased p) (bits_of G a) ≢ 1 → q ≡ p → Passed G a (a + 1) p q 0
+  passed_skip {a} {p} n e =
+      rw e
+      (record {
         worked = worked_none;
-        idle = λ z. (refl, λ c l h e. n (ap (λ (i : ℕ). count (erased p) (bits_of G i)) (let q : a ≡ c = omega arith in q) ∙ e));
-      }
-
-  -- what a look at check c answers
-  pub passed_nothing : {c : ℕ} {p q : List ℕ} {f : Fill} → FilledCheck G c p q f → f ≡ Nothing → Passed G c (c + 1) p q 0
-  passed_nothing (stayed n) e = passed_skip n
-  passed_nothing (filled b h x) e = absurd (let z : ◌≡◌ {A = ℕ} 0 1 = cc in omega arith)
-
-  pub worked_nothing : {c n : ℕ} {o p q : List ℕ} {f : Fill} → Worked G o p n → FilledCheck G c p q f → f ≡ Nothing → Worked G o q n
-  worked_nothing x (stayed n) e = x
-  worked_nothing x (filled b h y) e = absurd (let z : ◌≡◌ {A = ℕ} 0 1 = cc in omega arith)
-
-  pub worked_bit : {c b : ℕ} {p q : List ℕ} {f : Fill} → FilledCheck G c p q f → f ≡ Bit b → (b < length p) × Worked G p q 1
-  worked_bit (stayed n) e = absurd (let z : ◌≡◌ {A = ℕ} 0 1 = cc in omega arith)
-  worked_bit {b = b} (filled d h x) e = let s : d ≡ b = cc in (omega arith, x)
+        idle = λ z. (refl, λ c l h k. n (ap (λ (i : ℕ). count (erased p) (bits_of G i)) (let q : a ≡ c = omega arith in q) ∙ k));
+      })
 
   pub passed_filled : {a b n : ℕ} {p q : List ℕ} → Worked G p q n → 0 < n → Passed G a b p q n
   passed_filled x h = record { worked = x; idle = λ z. absurd (omega arith) }
@@ -124,9 +110,6 @@ module _ {G : Bipartite} where
       }
 
   -- Passes
-
-  pub peeled_none : {p : List ℕ} → Peeled G p p 0 1
-  peeled_none = record { worked = worked_none; stops = λ z. absurd (omega arith) }
 
   pub peeled_then : {p q r : List ℕ} {n m k : ℕ} → Peeled G p q n m → Passed G 0 G.checks q r k → Peeled G p r (n + k) k
   peeled_then x y =

@@ -1,11 +1,10 @@
 -- What the decoder's functions promise one another. During the work a byte 4 or 5 is an erasure that is filled with 0 or 1.
+use Rattle.std.specs.Prelude.{Option, Some, None}
 use Rattle.std.specs.Prelude.{ℕ, ◌+◌, ◌-◌, ◌≤◌, ◌<◌, ◌≡◌, ◌≢◌, Bool, false, cond, List, ltb, length, get_or}
 use Rattle.graph.specs.Count.{count}
 use Rattle.graph.specs.Graph.{Bipartite, bits_of}
 use Rattle.graph.specs.Erasure.{erased}
 use Rattle.graph.specs.Filling.{Derived, erasures}
-use Rattle.worklist.specs.declared.Fill.{Fill}
-use Rattle.worklist.specs.declared.Fill.TheVariants.{Nothing, Bit}
 
 -- a byte without its mark: the bit that it was filled with where `keep`, else an erasure again
 abbrev pub unmarked : Bool → ℕ → ℕ
@@ -24,9 +23,9 @@ pub record Worked (G : Bipartite) (p q : List ℕ) (n : ℕ) : Type 0 where
   pub fewer : erasures q + n ≡ erasures p
 
 -- check c was looked at: it had not exactly one erasure and nothing changed, or a forced erasure was filled
-pub data FilledCheck (G : Bipartite) (c : ℕ) (p : List ℕ) : List ℕ → Fill → Type 0 where
-  stayed : count (erased p) (bits_of G c) ≢ 1 → FilledCheck G c p p Nothing
-  filled : {q : List ℕ} (b : ℕ) → b < length p → Worked G p q 1 → FilledCheck G c p q (Bit b)
+abbrev pub FilledCheck : Bipartite → ℕ → List ℕ → List ℕ → Option ℕ → Type 0
+FilledCheck G c p q None = (count (erased p) (bits_of G c) ≢ 1) × (q ≡ p)
+FilledCheck G c p q (Some b) = (b < length p) × Worked G p q 1
 
 -- the checks from `start` up to `end` were looked at; where nothing was filled, none of them has exactly one erasure
 pub record Passed (G : Bipartite) (start end : ℕ) (p q : List ℕ) (n : ℕ) : Type 0 where
@@ -37,8 +36,3 @@ pub record Passed (G : Bipartite) (start end : ℕ) (p q : List ℕ) (n : ℕ) :
 pub record Peeled (G : Bipartite) (p q : List ℕ) (n m : ℕ) : Type 0 where
   pub worked : Worked G p q n
   pub stops : m ≡ 0 → (c : ℕ) → c < G.checks → count (erased q) (bits_of G c) ≢ 1
-
--- the waiting list holds checks in its first `top` places
-pub record Pending (checks : ℕ) (waiting : List ℕ) (top : ℕ) : Type 0 where
-  pub room : top ≤ length waiting
-  pub low : (k : ℕ) → k < top → get_or waiting k 0 < checks

@@ -2,198 +2,135 @@
 // and a waiting list.
 #![tactic(auto)]
 
-ghost use Rattle.std.specs.Prelude.{◌≡◌, ◌+◌, ◌*◌, ◌<◌, ◌≤◌};
+ghost use Rattle.std.specs.Prelude.{◌≡◌, ◌+◌, ◌<◌, ◌≤◌};
 ghost use Rattle.graph.specs.Filling.{clash};
-ghost use Rattle.exponent.specs.Limits.{WellFormed};
-ghost use Rattle.exponent.specs.Tanner.{graph_of};
-ghost use Rattle.index.specs.Index.{DownIndex};
-ghost use Rattle.syndrome.specs.Scan.{Ready};
-ghost use Rattle.worklist.specs.Work.{Pending, FilledCheck, Worked, Passed, Peeled};
+ghost use Rattle.exponent.specs.Graphs.{graph, checks_of, bits_in};
+ghost use Rattle.syndrome.specs.Scan.{IsWord};
+ghost use Rattle.worklist.specs.Work.{FilledCheck, Worked, Passed, Peeled};
+ghost use Rattle.worklist.specs.Pending.{Pending};
 
 use exponent::block::Block;
-use exponent::{Shape, block};
+use exponent::plan::Plan;
+use exponent::position;
+use index::rows::{Graph, Rows};
 use syndrome::scan;
+use waiting::Stack;
 
 pub mod marks; // marks.rt: turning marked bytes back or into bits
+mod waiting; // waiting.rt: the checks that are to be looked at again
 
-// How many checks may wait to be looked at again.
-const WAITING: usize = 512;
-
-// The bit that a check filled, if any.
-#[derive(Clone, Copy)]
-pub enum Fill {
-    Nothing,
-    Bit(usize),
-}
-
-// Fills the erasure of check c with a marked byte (4 or 5), if it is the only one.
-fn fill_check(plan: &[i16], along: &[u16], shape: Shape, c: usize, word: &mut [u8]) -> Fill
-    requires { Ready plan.now shape along.now word.old × (c < shape.rows * shape.lift) }
-    ensures { FilledCheck (graph_of plan.now shape) c word.old word.new result }
+// Fills the erasure of check c with a marked byte (4 or 5), if it is the only one. Returns the bit that was filled.
+fn fill_check(rows: &Rows, c: usize, word: &mut [u8]) -> Option<usize>
+    requires { IsWord rows.now.plan word.old × (c < checks_of rows.now.plan) }
+    ensures { FilledCheck (graph rows.now.plan) c word.old word.new result }
 {
-    let s = scan::scan_check(plan, along, shape, c, word);
-    let erased = s.erased;
-    if erased == 1 {
-        let at = s.at;
-        let x = s.sum % 2;
-        word[at] = 4 + x as u8;
-        return Fill::Bit(at);
+    let s = scan::scan_check(rows, c, word);
+    if s.erased == 1 {
+        word[s.at] = 4 + (s.sum % 2) as u8;
+        Some(s.at)
+    } else {
+        None
     }
-    Fill::Nothing
 }
 
 // Puts the check that bit (j, z) has in row i on the waiting list, if there is room.
-fn push_check(
-    plan: &[i16],
-    shape: Shape,
-    i: usize,
-    j: usize,
-    z: usize,
-    waiting: &mut [u32],
-    top: usize,
-) -> usize
-    requires { WellFormed plan.now shape.rows shape.cols shape.lift × (i < shape.rows) × (j < shape.cols) × (z < shape.lift) × Pending (shape.rows * shape.lift) waiting.old top }
-    ensures { Pending (shape.rows * shape.lift) waiting.new result × (result ≤ top + 1) }
+#[tactic(auto, using(exponent::proofs::Tanner::shift_low))]
+fn push_check(plan: &Plan, i: usize, j: usize, z: usize, waiting: &mut Stack)
+    requires { (i < plan.now.shape.rows) × (j < plan.now.shape.cols) × (z < plan.now.shape.lift) × Pending (checks_of plan.now) waiting.old }
+    ensures { Pending (checks_of plan.now) waiting.new × (waiting.new.top ≤ waiting.old.top + 1) }
 {
-    if waiting.len() <= top {
-        return top;
-    }
-    let b = block::block_at(plan, shape.cols, shape.lift, i, j);
-    match b {
-        Block::Zero => top,
-        Block::Invalid => top,
-        Block::Shift(e) => {
-            let y = (z + (shape.lift - e)) % shape.lift;
-            let c = i * shape.lift + y;
-            waiting[top] = c as u32;
-            top + 1
-        }
+    let lift = plan.shape.lift;
+    if let Block::Shift(e) = plan.block_at(i, j) {
+        waiting.push(i * lift + position::wrap(z + (lift - e), lift));
     }
 }
 
 // Puts the checks of a bit on the waiting list, over the filled blocks of its column.
-fn push_checks(
-    plan: &[i16],
-    down: &[u16],
-    shape: Shape,
-    bit: usize,
-    waiting: &mut [u32],
-    top: usize,
-) -> usize
-    requires { WellFormed plan.now shape.rows shape.cols shape.lift × DownIndex plan.now shape down.now × (bit < shape.cols * shape.lift) × Pending (shape.rows * shape.lift) waiting.old top }
-    ensures { Pending (shape.rows * shape.lift) waiting.new result × (result ≤ top + 192) }
+fn push_checks(g: &Graph, bit: usize, waiting: &mut Stack)
+    requires { (bit < bits_in g.now.rows.plan) × Pending (checks_of g.now.rows.plan) waiting.old }
+    ensures { Pending (checks_of g.now.rows.plan) waiting.new × (waiting.new.top ≤ waiting.old.top + 192) }
 {
-    let j = bit / shape.lift;
-    let z = bit % shape.lift;
-    let rows = shape.rows;
-    let mut next = top;
-    let mut i = 0;
-    while i < rows {
-        let row = index::next(down, shape.cols, i, j);
-        if rows <= row {
-            return next;
-        }
-        next = push_check(plan, shape, row, j, z, waiting, next);
-        i = row + 1;
+    let lift = g.rows.plan.shape.lift;
+    let j = bit / lift;
+    let z = bit % lift;
+    let mut from = 0;
+    while let Some(i) = g.next_row(from, j) {
+        push_check(&g.rows.plan, i, j, z, waiting);
+        from = i + 1;
     }
-    next
 }
 
 // Looks at the checks of a filled bit, and at those of the bits that this fills. Returns how many bits were filled.
-fn follow(
-    plan: &[i16],
-    down: &[u16],
-    along: &[u16],
-    shape: Shape,
-    bit: usize,
-    word: &mut [u8],
-) -> usize
-    requires { Ready plan.now shape along.now word.old × DownIndex plan.now shape down.now × (bit < shape.cols * shape.lift) }
-    ensures { Worked (graph_of plan.now shape) word.old word.new result }
+#[tactic(auto, using(crate::proofs::Steps::worked_then))]
+fn follow(g: &Graph, bit: usize, word: &mut [u8]) -> usize
+    requires { IsWord g.now.rows.plan word.old × (bit < bits_in g.now.rows.plan) }
+    ensures { Worked (graph g.now.rows.plan) word.old word.new result }
 {
-    let mut waiting = [0u32; WAITING];
-    let mut top = push_checks(plan, down, shape, bit, &mut waiting, 0);
+    let mut waiting = Stack::new();
+    push_checks(g, bit, &mut waiting);
     let mut filled = 0;
-    while 0 < top {
-        top -= 1;
-        let c = waiting[top] as usize;
-        let f = fill_check(plan, along, shape, c, word);
-        match f {
-            Fill::Nothing => {}
-            Fill::Bit(b) => {
-                filled += 1;
-                top = push_checks(plan, down, shape, b, &mut waiting, top);
-            }
+    while let Some(c) = waiting.pop() {
+        if let Some(b) = fill_check(&g.rows, c, word) {
+            filled += 1;
+            push_checks(g, b, &mut waiting);
         }
     }
     filled
 }
 
 // Fills what follows from check c. Returns how many bits were filled.
-fn settle(
-    plan: &[i16],
-    down: &[u16],
-    along: &[u16],
-    shape: Shape,
-    c: usize,
-    word: &mut [u8],
-) -> usize
-    requires { Ready plan.now shape along.now word.old × DownIndex plan.now shape down.now × (c < shape.rows * shape.lift) }
-    ensures { Passed (graph_of plan.now shape) c (c + 1) word.old word.new result }
+#[tactic(auto, using(crate::proofs::Steps::passed_skip, crate::proofs::Steps::passed_filled, crate::proofs::Steps::worked_then))]
+fn settle(g: &Graph, c: usize, word: &mut [u8]) -> usize
+    requires { IsWord g.now.rows.plan word.old × (c < checks_of g.now.rows.plan) }
+    ensures { Passed (graph g.now.rows.plan) c (c + 1) word.old word.new result }
 {
-    let f = fill_check(plan, along, shape, c, word);
-    match f {
-        Fill::Nothing => 0,
-        Fill::Bit(b) => 1 + follow(plan, down, along, shape, b, word),
+    match fill_check(&g.rows, c, word) {
+        Some(b) => 1 + follow(g, b, word),
+        None => 0,
     }
 }
 
 // One pass over all checks. Returns how many bits were filled.
-fn pass(plan: &[i16], down: &[u16], along: &[u16], shape: Shape, word: &mut [u8]) -> usize
-    requires { Ready plan.now shape along.now word.old × DownIndex plan.now shape down.now }
-    ensures { Passed (graph_of plan.now shape) 0 (shape.rows * shape.lift) word.old word.new result }
+fn pass(g: &Graph, word: &mut [u8]) -> usize
+    requires { IsWord g.now.rows.plan word.old }
+    ensures { Passed (graph g.now.rows.plan) 0 (checks_of g.now.rows.plan) word.old word.new result }
 {
-    let checks = shape.rows * shape.lift;
     let mut filled = 0;
-    let mut c = 0;
-    while c < checks {
-        filled += settle(plan, down, along, shape, c, word);
-        c += 1;
+    let shape = g.rows.plan.shape;
+    for c in 0..shape.rows * shape.lift {
+        filled += settle(g, c, word);
     }
     filled
 }
 
 // Passes until one fills nothing. Returns how many bits were filled.
-pub fn peel(plan: &[i16], down: &[u16], along: &[u16], shape: Shape, word: &mut [u8]) -> usize
-    requires { Ready plan.now shape along.now word.old × DownIndex plan.now shape down.now }
-    ensures { Peeled (graph_of plan.now shape) word.old word.new result 0 }
+#[tactic(auto, using(crate::proofs::Steps::peeled_then), unfolding(exponent::specs::Tanner::tanner))]
+pub fn peel(g: &Graph, word: &mut [u8]) -> usize
+    requires { IsWord g.now.rows.plan word.old }
+    ensures { Peeled (graph g.now.rows.plan) word.old word.new result 0 }
 {
     let mut filled = 0;
     let mut n = 1;
+    // Stays: it runs until a pass fills nothing.
     while 0 < n {
-        n = pass(plan, down, along, shape, word);
+        n = pass(g, word);
         filled += n;
     }
     filled
 }
 
 // Whether some check without an erasure is odd.
-pub fn has_clash(plan: &[i16], along: &[u16], shape: Shape, word: &[u8]) -> bool
-    requires { Ready plan.now shape along.now word.now }
-    ensures { result ≡ clash (graph_of plan.now shape) word.now }
+#[tactic(auto, using(graph::proofs::Peeling::any_zero, graph::proofs::Peeling::any_more), unfolding(graph::specs::Filling::clash, graph::specs::Filling::odd_check, graph::specs::Erasure::parity, exponent::specs::Tanner::tanner))]
+pub fn has_clash(rows: &Rows, word: &[u8]) -> bool
+    requires { IsWord rows.now.plan word.now }
+    ensures { result ≡ clash (graph rows.now.plan) word.now }
 {
-    let checks = shape.rows * shape.lift;
-    let mut c = 0;
-    while c < checks {
-        let s = scan::scan_check(plan, along, shape, c, word);
-        let erased = s.erased;
-        let odd = s.sum % 2;
-        if erased == 0 {
-            if odd == 1 {
-                return true;
-            }
+    let shape = rows.plan.shape;
+    for c in 0..shape.rows * shape.lift {
+        let s = scan::scan_check(rows, c, word);
+        if s.erased == 0 && s.sum % 2 == 1 {
+            return true;
         }
-        c += 1;
     }
     false
 }

@@ -6,18 +6,19 @@ fn unmark(keep: bool, x: u8) -> u8
     ensures { result ≡ unmarked keep x }
 {
     if x < 4 {
-        return x;
+        x
+    } else if keep {
+        x - 4
+    } else {
+        2
     }
-    if keep { x - 4 } else { 2 }
 }
 
 // Takes the marks off every byte.
 pub fn unmark_all(keep: bool, word: &mut [u8])
     ensures { (b : ℕ) → get_or word.new b 0 ≡ unmarked keep (get_or word.old b 0) }
 {
-    let mut place = 0;
-    while place < word.len() {
-        word[place] = unmark(keep, word[place]);
-        place += 1;
+    for x in word.iter_mut() {
+        *x = unmark(keep, *x);
     }
 }

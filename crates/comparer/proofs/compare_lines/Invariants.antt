@@ -1,6 +1,6 @@
 -- `comparer::compare_lines` meets its contract. The loop's invariant: the text differs from the lines behind the first where it differs from the lines from line i on.
--- The measure is how many lines are left. Assumes nothing.
-use Prim.Native.Nat.{◌-◌, ◌≤◌}
+-- Assumes nothing.
+use Prim.Native.Nat.{◌≤◌}
 use mathlib.Core.Path.{◌≡◌}
 use lib.ListN.{length}
 use Rattle.exponent.specs.Tanner.{graph_of}
@@ -11,7 +11,4 @@ use Rattle.comparer.specs.Later.{later_lines}
 use Rattle.comparer.proofs.compare_lines.Given as goal
 
 abbrev pub invariant-loop-i : goal.invariant-loop-i
-invariant-loop-i l = (l.at ≤ length l.text) × (mismatch l.form l.text l.initial.at (items_of l.form (later_lines l.form (graph_of l.plan l.l.shape))) ≡ mismatch l.form l.text l.at (items_of l.form (lines_from l.form l.plan l.l.shape l.i)))
-
-abbrev pub decreases-loop-i : goal.decreases-loop-i
-decreases-loop-i l = l.count - l.i
+invariant-loop-i l = (l.c.at ≤ length l.text) × (mismatch l.form l.text l.initial.c.at (items_of l.form (later_lines l.form (graph_of l.plan l.l.shape))) ≡ mismatch l.form l.text l.c.at (items_of l.form (lines_from l.form l.plan l.l.shape l.i)))

@@ -1,6 +1,6 @@
 -- `comparer::expect_numbers` meets its contract. The loop's invariant: the line reads as what is left of it, from the place that reading has come to.
--- The measure is how many numbers are left. Assumes nothing.
-use Prim.Native.Nat.{◌-◌, ◌≤◌}
+-- Assumes nothing.
+use Prim.Native.Nat.{◌≤◌}
 use mathlib.Core.Path.{◌≡◌}
 use mathlib.Core.List.{map}
 use lib.ListN.{length}
@@ -11,7 +11,4 @@ use Rattle.lines.specs.Lines.{line_in, width_of, line_rest}
 use Rattle.comparer.proofs.expect_numbers.Given as goal
 
 abbrev pub invariant-loop-k : goal.invariant-loop-k
-invariant-loop-k l = (l.at ≤ length l.text) × (read_line l.form l.text l.initial.at (map numeral (line_in l.form (graph_of l.plan l.l.shape) l.line)) ≡ read_line l.form l.text l.at (map numeral (line_rest l.plan l.l l.line (width_of l.form l.l l.byrow l.bycol l.line) l.k l.from)))
-
-abbrev pub decreases-loop-k : goal.decreases-loop-k
-decreases-loop-k l = l.w - l.k
+invariant-loop-k l = (l.c.at ≤ length l.text) × (read_line l.form l.text l.initial.c.at (map numeral (line_in l.form (graph_of l.plan l.l.shape) l.line)) ≡ read_line l.form l.text l.c.at (map numeral (line_rest l.plan l.l l.line (width_of l.form l.l l.byrow l.bycol l.line) l.k l.from)))

@@ -6,6 +6,3 @@ use Rattle.index.proofs.build_along.Given as goal
 
 abbrev pub invariant-loop-i : goal.invariant-loop-i
 invariant-loop-i l = Rows (AlongNext (filled_at l.plan l.shape) l.shape) l.shape l.initial.along l.along l.i
-
-abbrev pub decreases-loop-i : goal.decreases-loop-i
-decreases-loop-i l = l.i

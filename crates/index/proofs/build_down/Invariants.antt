@@ -6,6 +6,3 @@ use Rattle.index.proofs.build_down.Given as goal
 
 abbrev pub invariant-loop-i : goal.invariant-loop-i
 invariant-loop-i l = Rows (DownNext (named l.along l.shape) l.shape) l.shape l.initial.down l.down l.i
-
-abbrev pub decreases-loop-i : goal.decreases-loop-i
-decreases-loop-i l = l.i

@@ -1,20 +1,19 @@
 -- `worklist::fill_check` meets its contract: the scan finds how many bits of the check are erasures, and the only one takes the parity.
 -- Assumes nothing.
-use mathlib.Core.Path.{sym, ◌∙◌}
+use mathlib.Core.Path.{refl, sym, ◌∙◌}
 use native.Mathlib.Omega.{arith}
 use Rattle.graph.proofs.Peeling.{erased_low}
 use Rattle.exponent.specs.Tanner.{tanner}
-use Rattle.worklist.specs.Work.{stayed, filled}
 use Rattle.worklist.proofs.Steps.{fill_one}
 use Rattle.worklist.proofs.fill_check.Goals as goal
 
-pub returns-then-erased-eq1 : goal.returns-then-erased-eq1
+pub returns-then-s-eq1 : goal.returns-then-s-eq1
 unfolding tanner
-returns-then-erased-eq1 c = let s = c.scan_check-s in
+returns-then-s-eq1 c =
+    let s = c.scan_check-s in
     let one = s.ensures.one (omega arith) in
     rw s.ensures.sum
-    (filled s.result.at (let s = c.scan_check-s in
-    erased_low c.args.word.now s.result.at (s.ensures.one (omega arith)).1) (fill_one c.args.c s.result.at c.requires.1 (sym s.ensures.erasures ∙ c.if-erased-eq1.true) one.0 one.1))
+    (erased_low c.args.word.now s.result.at one.1, fill_one c.args.c s.result.at c.requires.1 (sym s.ensures.erasures ∙ c.if-s-eq1.true) one.0 one.1)
 
-pub returns : goal.returns
-returns c = stayed (λ e. c.if-erased-eq1.false (c.scan_check-s.ensures.erasures ∙ e))
+pub returns-else-s-eq1 : goal.returns-else-s-eq1
+returns-else-s-eq1 c = (λ e. c.if-s-eq1.false (c.scan_check-s.ensures.erasures ∙ e), refl)

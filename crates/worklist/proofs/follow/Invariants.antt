@@ -1,15 +1,14 @@
 -- `worklist::follow` meets its contract. The loop's invariant: what waits are checks, and the word became what it is by filling forced
 -- erasures. The measure: a filled bit is one erasure less and at most 192 checks more. Assumes nothing.
 use Prim.Native.Nat.{◌+◌, ◌*◌}
-use mathlib.Core.Path.{◌≡◌}
-use lib.ListN.{length}
 use Rattle.graph.specs.Filling.{erasures}
-use Rattle.exponent.specs.Tanner.{graph_of}
-use Rattle.worklist.specs.Work.{Worked, Pending}
+use Rattle.exponent.specs.Graphs.{graph, checks_of}
+use Rattle.worklist.specs.Work.{Worked}
+use Rattle.worklist.specs.Pending.{Pending}
 use Rattle.worklist.proofs.follow.Given as goal
 
-abbrev pub invariant-loop-top : goal.invariant-loop-top
-invariant-loop-top l = Pending (l.shape.rows * l.shape.lift) l.waiting l.top × (length l.waiting ≡ 512) × Worked (graph_of l.plan l.shape) l.initial.word l.word l.filled
+abbrev pub invariant-loop-c : goal.invariant-loop-c
+invariant-loop-c l = Pending (checks_of l.g.rows.plan) l.waiting × Worked (graph l.g.rows.plan) l.initial.word l.word l.filled
 
-abbrev pub decreases-loop-top : goal.decreases-loop-top
-decreases-loop-top l = erasures l.word * 193 + l.top
+abbrev pub decreases-loop-c : goal.decreases-loop-c
+decreases-loop-c l = erasures l.word * 193 + l.waiting.top

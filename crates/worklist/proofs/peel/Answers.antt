@@ -1,5 +1,4 @@
--- `worklist::peel` meets its contract. The loop's invariant: passes made the word what it is, n bits in the last one. The measure is what
--- is erased and n: a pass that fills bits takes as many erasures. Assumes nothing.
+-- `worklist::peel` meets its contract: no more bits are filled than there are. Assumes nothing.
 use native.Mathlib.Omega.{arith}
 use Rattle.exponent.specs.Tanner.{tanner}
 use Rattle.worklist.proofs.Steps.{worked_few, peeled_then}
@@ -8,9 +7,5 @@ use Rattle.worklist.proofs.peel.Goals as goal
 pub overflow_add-filled : goal.overflow_add-filled
 unfolding tanner
 overflow_add-filled c =
-    let p = c.requires.0 in
-    omega (arith, worked_few (peeled_then c.loop-n.invariant c.pass-n.ensures).worked, p.whole, p.formed.few_bits)
-
-pub loop-n-preserved : goal.loop-n-preserved
-unfolding tanner
-loop-n-preserved c = peeled_then c.loop-n.invariant c.pass-n.ensures
+    let whole = c.requires in
+    omega (arith, worked_few (peeled_then c.loop-n.invariant c.pass-n.ensures).worked, whole, c.args.g.now.rows.plan.well_formed.few_bits)

@@ -2,12 +2,12 @@
 -- is erased and n: a pass that fills bits takes as many erasures. Assumes nothing.
 use Prim.Native.Nat.{◌+◌}
 use Rattle.graph.specs.Filling.{erasures}
-use Rattle.exponent.specs.Tanner.{graph_of}
+use Rattle.exponent.specs.Graphs.{graph}
 use Rattle.worklist.specs.Work.{Peeled}
 use Rattle.worklist.proofs.peel.Given as goal
 
 abbrev pub invariant-loop-n : goal.invariant-loop-n
-invariant-loop-n l = Peeled (graph_of l.plan l.shape) l.initial.word l.word l.filled l.n
+invariant-loop-n l = Peeled (graph l.g.rows.plan) l.initial.word l.word l.filled l.n
 
 abbrev pub decreases-loop-n : goal.decreases-loop-n
 decreases-loop-n l = erasures l.word + l.n

@@ -1,9 +1,9 @@
--- `worklist::push_check` meets its contract: a shift lies below the lift, so the check is one of the plan's, and so small.
--- Assumes nothing.
-use mathlib.Core.Path.{sym, ◌∙◌}
-use native.Mathlib.Omega.{arith}
-use Rattle.exponent.proofs.Tanner.{shift_low}
+-- `worklist::push_check` meets its contract: the check is one of the plan's. Assumes nothing.
+use Rattle.std.proofs.Common.{arith}
+use Rattle.exponent.proofs.Numbers.{number_low}
 use Rattle.worklist.proofs.push_check.Goals as goal
 
-pub overflow_sub-y : goal.overflow_sub-y
-overflow_sub-y c = omega (arith, shift_low _ _ _ _ _ _ (omega arith) (sym c.block_at-b.ensures ∙ c.in-Shift.is))
+pub returns-in-Shift : goal.returns-in-Shift
+returns-in-Shift c =
+    let (row, _, inner, pending) = c.requires in
+    (c.push.ensures.pending _ pending (number_low _ _ _ _ row (omega (arith, c.wrap.ensures))), c.push.ensures.few)

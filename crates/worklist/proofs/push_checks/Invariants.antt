@@ -1,13 +1,11 @@
--- `worklist::push_checks` meets its contract. The loop's invariant: the list holds checks, at most one more for each row passed.
--- The measure is what is left of the rows. Assumes nothing.
-use Prim.Native.Nat.{◌+◌, ◌-◌, ◌*◌, ◌≤◌}
-use mathlib.Core.Path.{◌≡◌}
-use lib.ListN.{length}
-use Rattle.worklist.specs.Work.{Pending}
+-- `worklist::push_checks` meets its contract: the list holds checks, at most one more for each row passed. Assumes nothing.
+use Rattle.std.proofs.Common.{◌+◌, ◌-◌, ◌≤◌}
+use Rattle.exponent.specs.Graphs.{checks_of}
+use Rattle.worklist.specs.Pending.{Pending}
 use Rattle.worklist.proofs.push_checks.Given as goal
 
 abbrev pub invariant-loop-i : goal.invariant-loop-i
-invariant-loop-i l = (l.i ≤ l.rows) × (l.next ≤ l.top + l.i) × (length l.waiting ≡ length l.initial.waiting) × Pending (l.rows * l.shape.lift) l.waiting l.next
+invariant-loop-i l = (l.from ≤ l.g.rows.plan.shape.rows) × (l.waiting.top ≤ l.fn.waiting.top + l.from) × Pending (checks_of l.g.rows.plan) l.waiting
 
 abbrev pub decreases-loop-i : goal.decreases-loop-i
-decreases-loop-i l = l.rows - l.i
+decreases-loop-i l = l.g.rows.plan.shape.rows - l.from

@@ -1,6 +1,5 @@
 -- `alist::put::put_text` meets its contract. The loop's invariant: what is left of the text is that of the lines from line i on.
--- The measure is how many lines are left. Assumes nothing.
-use Prim.Native.Nat.{◌-◌}
+-- Assumes nothing.
 use mathlib.Core.Path.{◌≡◌}
 use lib.ListN.{length}
 use Rattle.writing.proofs.Wrote.{Going}
@@ -13,6 +12,3 @@ use Rattle.alist.proofs.put.put_text.Given as goal
 
 abbrev pub invariant-loop-i : goal.invariant-loop-i
 invariant-loop-i l = (length l.text ≡ length l.initial.text) × Going l.initial.text 0 (text_of (lines_of (graph_of l.plan l.l.shape))) (text_of (lines_from Padded l.plan l.l.shape l.i)) l.o l.text
-
-abbrev pub decreases-loop-i : goal.decreases-loop-i
-decreases-loop-i l = l.count - l.i

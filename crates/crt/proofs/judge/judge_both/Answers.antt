@@ -1,6 +1,6 @@
--- `crt::judge::judge_both` meets its contract: three judgements, of which the lowest is taken. Assumes nothing.
+-- Three judgements, of which the lowest is taken. Assumes nothing.
 use mathlib.Core.Path.{ap, ◌∙◌}
-use Rattle.exponent.specs.Limits.{validity}
+use Rattle.refusal.specs.Answer.{ok_unless}
 use Rattle.refusal.specs.Lowest.{lower}
 use Rattle.crt.specs.Join.{plan_refusal, at_product, both_refusal}
 use Rattle.crt.specs.Work.{shaped}
@@ -13,4 +13,4 @@ returns c = let a = shaped c.args.first.now c.args.s in
     let b = shaped c.args.second.now c.args.t in
     lower_told (lower (plan_refusal a) (plan_refusal b)) (plan_refusal (at_product a b)) c.lower-2.ensures
     (lower_told (plan_refusal a) (plan_refusal b) c.lower.ensures c.validate-a.ensures c.validate-b.ensures)
-    (c.validate-c.ensures ∙ ap validity (c.product.ensures a.plan a.rows a.cols))
+    (c.validate-c.ensures ∙ ap ok_unless (c.product.ensures a.plan a.rows a.cols))

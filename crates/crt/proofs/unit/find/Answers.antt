@@ -1,7 +1,5 @@
--- `crt::unit::find` meets its contract: before k no multiple leaves 1; and where none does at all, the sizes share a divisor.
--- Assumes nothing.
-use mathlib.Core.Path.{◌≡◌}
-use native.Mathlib.Omega.{arith}
+-- Where no multiple leaves 1, the sizes share a divisor. Assumes nothing.
+use Rattle.std.proofs.Common.{◌≡◌, arith}
 use Rattle.crt.specs.Work.{nothing, at}
 use Rattle.crt.proofs.Units.{is_unit, none_shared}
 use Rattle.crt.proofs.unit.find.Goals as goal
@@ -12,4 +10,4 @@ returns-then-u-q c = let a = c.args in
 
 pub returns : goal.returns
 returns c = let end : c.loop-k.k ≡ c.args.q = omega arith in
-    nothing (none_shared c.args.p c.args.q c.requires.0 c.requires.1 (rw end at c.loop-k.invariant.1))
+    nothing (none_shared c.args.p c.args.q c.requires.0 c.requires.1 (rw end at c.loop-k.invariant))

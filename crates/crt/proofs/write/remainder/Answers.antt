@@ -1,4 +1,4 @@
--- `crt::write::remainder` meets its contract: the formula gives the number that is found, and no step of it overflows. Assumes nothing.
+-- The formula gives the number that is found. Assumes nothing.
 use Rattle.crt.proofs.Remainders.{found, found_low, found_remainders}
 use native.Mathlib.Omega.{arith}
 use mathlib.Core.Path.{sym}

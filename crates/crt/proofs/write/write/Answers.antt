@@ -1,4 +1,4 @@
--- `crt::write::write` meets its contract: the entries before `place` are joined. Assumes nothing.
+-- Assumes nothing.
 use Prim.Native.Nat.{ℕ, ◌*◌, ◌≤◌, ◌<◌}
 use native.Mathlib.Omega.{arith}
 use native.Mathlib.Nat.{mul-le-mul}
@@ -25,4 +25,4 @@ remainder-e-requires c =
     (z, grind arith, grind arith)
 
 pub returns : goal.returns
-returns c = joined_all _ _ _ _ _ _ c.loop-place.invariant.1 (omega arith)
+returns c = joined_all _ _ _ _ _ _ c.loop-place.invariant (omega arith)

@@ -1,10 +1,7 @@
 -- `encoding::parity::settle_front` meets its contract: the columns before k are settled, whatever the third shift and the data bits. Assumes nothing.
-use Prim.Native.Nat.{ℕ, ◌-◌, ◌≤◌}
+use Prim.Native.Nat.{ℕ}
 use Rattle.encoding.specs.Work.{Ready, Settled}
 use Rattle.encoding.proofs.parity.settle_front.Given as goal
 
 abbrev pub invariant-loop-k : goal.invariant-loop-k
-invariant-loop-k l = (1 ≤ l.k) × (l.k ≤ l.last) × Ready l.plan l.shape l.word × ((third : ℕ) (bit : ℕ → ℕ → ℕ) → Settled l.plan l.shape third bit 1 l.initial.word → Settled l.plan l.shape third bit l.k l.word)
-
-abbrev pub decreases-loop-k : goal.decreases-loop-k
-decreases-loop-k l = l.last - l.k
+invariant-loop-k l = Ready l.plan.entries.now l.plan.shape l.word × ((third : ℕ) (bit : ℕ → ℕ → ℕ) → Settled l.plan.entries.now l.plan.shape third bit 1 l.initial.word → Settled l.plan.entries.now l.plan.shape third bit l.k l.word)

@@ -1,5 +1,4 @@
--- `square::supply::put_table` meets its contract. The loop's invariant: the first n entries are written.
--- The measure is what is left of the list. Assumes nothing.
+-- Assumes nothing.
 use Prim.Native.Nat.{◌*◌}
 use mathlib.Core.Path.{◌≡◌, sym, ap, ◌∙◌}
 use mathlib.Core.List.{[], ◌∷◌}
@@ -10,19 +9,17 @@ use mir.Val.{to_z, of_z}
 use borrow.Author.Rules.{rules}
 use Rattle.writing.proofs.Wrote.{wrote_one, wrote_all}
 use Rattle.square.proofs.Each.{length_ones, supplied_are}
-use Rattle.square.proofs.Runs.{turn, done}
+use Rattle.square.proofs.Runs.{turn}
 use Rattle.square.proofs.supply.put_table.Invariants.{number}
 use Rattle.square.proofs.supply.put_table.Goals as goal
 
 pub loop-n-preserved : goal.loop-n-preserved
 loop-n-preserved c = let a = c.args in
-    let e : to_z w16 (of_z w16 c.make.result) ≡ c.make.result = search rules in (
-      omega (arith, c.loop-n-test.true),
-      turn (λ k. number a.family a.order k ∷ []) c.loop-n.invariant.1 (wrote_one _ _ _ _ (e ∙ c.make.ensures ∙ ap pos c.supplied_at-e.ensures)),
-    )
+    let e : to_z w16 (of_z w16 c.make.result) ≡ c.make.result = search rules in
+    turn (λ k. number a.family a.order k ∷ []) c.loop-n.invariant (wrote_one _ _ _ _ (e ∙ c.make.ensures ∙ ap pos c.supplied_at.ensures))
 
 pub returns : goal.returns
 returns c = let f = number c.args.family c.args.order in
     wrote_all _ _ _ _ (c.requires.2 ∙ sym (length_ones (c.args.order * c.args.order) f))
-    (done (λ k. f k ∷ []) c.loop-n.invariant.1 (c.args.order * c.args.order) c.loop-n.invariant.0 c.loop-n-test.false)
+    (rw (let e : c.loop-n.n ≡ c.args.order * c.args.order = omega arith in e) at c.loop-n.invariant)
     ∙ sym (supplied_are c.args.order c.requires.0 c.args.family)

@@ -1,6 +1,5 @@
--- `square::supply::put_table` meets its contract. The loop's invariant: the first n entries are written.
--- The measure is what is left of the list. Assumes nothing.
-use Prim.Native.Nat.{ℕ, ◌*◌, ◌/◌, ◌%◌, ◌-◌, ◌≤◌}
+-- The first n entries are written.
+use Prim.Native.Nat.{ℕ, ◌/◌, ◌%◌}
 use mathlib.Core.List.{[], ◌∷◌}
 use lib.IntN.{ℤ, pos}
 use Rattle.writing.specs.Wrote.{Wrote}
@@ -13,7 +12,4 @@ abbrev pub number : Family → ℕ → ℕ → ℤ
 number family order n = pos (supplied_at family order (n / order) (n % order))
 
 abbrev pub invariant-loop-n : goal.invariant-loop-n
-invariant-loop-n l = (l.n ≤ l.order * l.order) × Wrote l.initial.table 0 (each l.n (λ k. number l.family l.order k ∷ [])) l.n l.table
-
-abbrev pub decreases-loop-n : goal.decreases-loop-n
-decreases-loop-n l = l.order * l.order - l.n
+invariant-loop-n l = Wrote l.initial.table 0 (each l.n (λ k. number l.family l.order k ∷ [])) l.n l.table

@@ -1,9 +1,6 @@
--- `steiner::system::cols` meets its contract: an order is at least 7 and at most 19. Assumes nothing.
-use Prim.Native.Nat.{◌-◌}
-use mathlib.Core.Path.{refl}
+-- An order is at least 7 and at most 19. Assumes nothing.
+use Rattle.std.proofs.Common.{◌-◌, arith}
 use native.Mathlib.Nat.{mul-le-mul}
-use native.Mathlib.Omega.{arith}
-use Rattle.steiner.specs.System.{cols}
 use Rattle.steiner.proofs.Orders.{small}
 use Rattle.steiner.proofs.system.cols.Goals as goal
 
@@ -14,7 +11,3 @@ pub overflow_mul-result : goal.overflow_mul-result
 overflow_mul-result c = let v = c.args.order in
     let s = small v c.requires in
     omega (arith, mul-le-mul {n₁ = v} {m₁ = v - 1} {n₂ = 19} {m₂ = 18} s.few_points (omega arith))
-
-pub returns : goal.returns
-unfolding cols
-returns c = refl

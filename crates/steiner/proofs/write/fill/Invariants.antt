@@ -1,6 +1,5 @@
--- `steiner::write::fill` meets its contract. The loop's invariant: the first n entries are written.
--- The measure is what is left of the list. Assumes nothing.
-use Prim.Native.Nat.{ℕ, ◌*◌, ◌/◌, ◌%◌, ◌-◌, ◌≤◌}
+-- The first n entries are written.
+use Prim.Native.Nat.{ℕ, ◌/◌, ◌%◌}
 use mathlib.Core.List.{List, [], ◌∷◌}
 use lib.IntN.{ℤ}
 use Rattle.writing.specs.Wrote.{Wrote}
@@ -14,7 +13,4 @@ abbrev pub number : ℕ → ℕ → List ℤ → ℕ → ℤ
 number order lift voltages n = entry order lift voltages (n / cols order) (n % cols order)
 
 abbrev pub invariant-loop-n : goal.invariant-loop-n
-invariant-loop-n l = (l.n ≤ l.order * cols l.order) × Wrote l.initial.plan 0 (each l.n (λ k. number l.order l.lift l.voltages k ∷ [])) l.n l.plan
-
-abbrev pub decreases-loop-n : goal.decreases-loop-n
-decreases-loop-n l = l.order * cols l.order - l.n
+invariant-loop-n l = Wrote l.initial.plan 0 (each l.n (λ k. number l.order l.lift l.voltages k ∷ [])) l.n l.plan

@@ -1,32 +1,10 @@
--- `table::judge::judge` meets its contract: first the rules of the table, then those of the mask. Assumes nothing.
-use mathlib.Core.Path.{◌≡◌, sym, ap, ◌∙◌}
-use mathlib.Core.Option.{Option, none}
-use native.Mathlib.Omega.{arith}
-use Rattle.refusal.specs.declared.Refusal.{Refusal}
-use Rattle.refusal.specs.Lowest.{lowest}
-use Rattle.refusal.proofs.Lowest.{lowest_accepted, lowest_refused}
-use Rattle.square.specs.Mask.{weight}
-use Rattle.table.specs.Build.{table_rules, mask_rules, build_rules, verdict}
-use Rattle.table.proofs.Accepted.{table_taken, accepts, refuses}
+-- A table that is refused is refused with its mask. Assumes nothing.
+use Rattle.std.proofs.Common.{◌∙◌, sym}
+use Rattle.std.proofs.lemmas.Result.{err_from_is_err_and}
+use Rattle.table.proofs.Accepted.{table_refused}
 use Rattle.table.proofs.judge.judge.Goals as goal
 
-pub judge_mask-requires : goal.judge_mask-requires
-judge_mask-requires c =
-    let passed : (let a = c.args in lowest (table_rules a.order a.lift a.table.now) ≡ none) = (accepts _ 0 _ (sym c.in-Accepted.is ∙ c.judge_table.ensures)).0 in
-    let t = table_taken _ _ _ passed in (omega (arith, t.least_order), omega (arith, t.most_order), t.small_lift)
-
-pub returns-in-Accepted : goal.returns-in-Accepted
-unfolding build_rules
-returns-in-Accepted c =
-    let passed : (let a = c.args in lowest (table_rules a.order a.lift a.table.now) ≡ none) = (accepts _ 0 _ (sym c.in-Accepted.is ∙ c.judge_table.ensures)).0 in
-    let a = c.args in
-    c.judge_mask.ensures
-    ∙ sym (ap (λ (o : Option Refusal). verdict o (weight a.order a.mask.now))
-    (lowest_accepted (table_rules a.order a.lift a.table.now) (mask_rules a.order a.lift a.mask.now a.room) passed))
-
-pub returns-in-Refused : goal.returns-in-Refused
-unfolding build_rules
-returns-in-Refused c = let a = c.args in
-    sym (ap (λ (o : Option Refusal). verdict o (weight a.order a.mask.now))
-    (lowest_refused (table_rules a.order a.lift a.table.now) (mask_rules a.order a.lift a.mask.now a.room) _
-    (refuses _ 0 _ (sym c.in-Refused.is ∙ c.judge_table.ensures))))
+pub returns-in_err-judge_table : goal.returns-in_err-judge_table
+returns-in_err-judge_table c = let a = c.args in
+    let p = err_from_is_err_and c.from_residual.result c.from_residual.ensures.1 in
+    rw (p.1, p.2, table_refused a.order a.lift a.table.now a.mask.now a.room _ (sym c.judge_table.ensures ∙ c.in_err-judge_table.was))

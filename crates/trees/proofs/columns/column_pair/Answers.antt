@@ -5,7 +5,7 @@ use Rattle.trees.proofs.Growing.{grew_until}
 use Rattle.trees.proofs.Overfull.{wrote_front}
 use Rattle.trees.proofs.columns.column_pair.Goals as goal
 
-pub returns-in-Until : goal.returns-in-Until
-returns-in-Until c =
-    let (fits, wrote) = grew_until c.column_tree-g.ensures c.in-Until.is in
+pub returns-in-Some : goal.returns-in-Some
+returns-in-Some c =
+    let (fits, wrote) = grew_until c.column_tree.ensures c.in-Some.is in
     subst (λ (l : List ℕ). Decides c.has_pair.result (Pair l)) (wrote_front wrote fits) c.has_pair.ensures
