@@ -13,7 +13,10 @@ fn lay(plan: &Plan, info: &[u8], word: &mut [u8])
 {
     let start = plan.shape.rows * plan.shape.lift;
     word[..start].fill(0);
-    word[start..].copy_from_slice(info);
+    // Stays: by the slice's `copy_from_slice` the archive for C would ask for `memmove`.
+    for (k, x) in info.iter().enumerate() {
+        word[start + k] = *x;
+    }
 }
 
 // Sums the data bits of each row's checks into the row's own column, and those of all rows into column m − 1, which is then settled.

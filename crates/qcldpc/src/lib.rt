@@ -177,17 +177,15 @@ pub extern "C" fn qcldpc_encode(
     if out.len() < PLACES {
         return NO_ROOM;
     }
-    reply::give(
-        encoding::encode(
-            plan,
-            rows as usize,
-            cols as usize,
-            lift as usize,
-            data,
-            word,
-        ),
-        out,
-    )
+    let encoded = encoding::encode(
+        plan,
+        rows as usize,
+        cols as usize,
+        lift as usize,
+        data,
+        word,
+    );
+    reply::give(encoded, out)
 }
 
 // The preview: what the decoder would put into `out`, with the word only read.
@@ -374,20 +372,18 @@ pub extern "C" fn qcldpc_join(
     if out.len() < PLACES {
         return NO_ROOM;
     }
-    reply::give(
-        crt::join(
-            first,
-            rows as usize,
-            cols as usize,
-            lift as usize,
-            second,
-            rows2 as usize,
-            cols2 as usize,
-            lift2 as usize,
-            joined,
-        ),
-        out,
-    )
+    let joining = crt::join(
+        first,
+        rows as usize,
+        cols as usize,
+        lift as usize,
+        second,
+        rows2 as usize,
+        cols2 as usize,
+        lift2 as usize,
+        joined,
+    );
+    reply::give(joining, out)
 }
 
 // A supplied table.

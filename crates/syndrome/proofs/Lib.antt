@@ -4,3 +4,4 @@ pub mod Odds
 pub mod Rules
 pub mod Cases
 pub mod Flags
+pub mod Packed

@@ -9,7 +9,7 @@ use mathlib.Core.List.{List, [], ◌∷◌, ◌++◌}
 use Rattle.std.specs.Prelude.{Option, None, Some}
 use Rattle.std.proofs.lemmas.Option.{none-some}
 use native.Mathlib.Omega.{arith}
-use borrow.Author.Tests.{ltb-true, ltb-false, le-ltb, eqb-true, eq-eqb, not-false}
+use borrow.Author.Tests.{ltb-true, ltb-false, lt-ltb, le-ltb, eqb-true, eq-eqb, not-false}
 use lib.Dec.{ltb}
 use lib.IntN.{ℤ}
 use lib.ListN.{length, get_or, get_or-eq_default}
@@ -18,7 +18,7 @@ use Rattle.refusal.specs.declared.Refusal.TheVariants.{Erasure}
 use Rattle.refusal.specs.Lowest.{Rule, refuse, lowest, rising}
 use Rattle.refusal.specs.Answer.{outcome, ok_unless}
 use Rattle.refusal.specs.Place.{first_place, somewhere}
-use Rattle.refusal.proofs.Lowest.{lowest_accepted, lowest_refused, none_append, NoneHolds, none_holds}
+use Rattle.refusal.proofs.Lowest.{lowest_accepted, lowest_refused, lowest_here, lowest_next, none_append, NoneHolds, none_holds}
 use Rattle.refusal.proofs.Place.{somewhere_no, somewhere_none}
 use Rattle.graph.specs.Erasure.{parity, Codeword}
 use Rattle.graph.proofs.Decide.{by_le, by_bool}
@@ -102,6 +102,22 @@ module _ (plan : List ℤ) (rows cols lift : ℕ) (word : List ℕ) where
         let low = everywhere word 2 (λ b k. omega (arith, h.2 b k)) in
         (none_append (word_rules plan rows cols lift word) _).1 (word_accepted.1 (h.0, h.1, low), (erasure_free low).1 h.2),
   )
+
+  -- what the check's rules say, by those of the word and by the first erasure
+  pub word_refused : (x : Refusal) → lowest (word_rules plan rows cols lift word) ≡ Some x → lowest (check_rules plan rows cols lift word) ≡ Some x
+  unfolding check_rules
+  word_refused x e = lowest_refused (word_rules plan rows cols lift word) _ x e
+
+  pub erasure_refused : lowest (word_rules plan rows cols lift word) ≡ None → first_place is_erasure word < length word
+      → lowest (check_rules plan rows cols lift word) ≡ Some (Erasure (first_place is_erasure word))
+  unfolding check_rules
+  erasure_refused e h =
+      lowest_accepted (word_rules plan rows cols lift word) _ e ∙ lowest_here (somewhere is_erasure word) (Erasure (first_place is_erasure word)) [] (lt-ltb _ _ h)
+
+  pub all_known : lowest (word_rules plan rows cols lift word) ≡ None → length word ≤ first_place is_erasure word → lowest (check_rules plan rows cols lift word) ≡ None
+  unfolding check_rules lowest
+  all_known e h =
+      lowest_accepted (word_rules plan rows cols lift word) _ e ∙ lowest_next (somewhere is_erasure word) (Erasure (first_place is_erasure word)) [] (le-ltb _ _ h)
 
 -- what a plan and a word have that pass
 pub known_formed : (plan : List ℤ) (rows cols lift : ℕ) (word : List ℕ) → ok_unless (lowest (check_rules plan rows cols lift word)) ≡ Ok tt

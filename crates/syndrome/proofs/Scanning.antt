@@ -9,7 +9,7 @@ use native.Mathlib.Nat.{mod-lt, div-add-mod'}
 use native.Mathlib.Omega.{arith}
 use borrow.Author.Tests.{eq-eqb, ne_eqb}
 use lib.IntN.{ℤ}
-use lib.ListN.{get_or}
+use lib.ListN.{get_or, length}
 use Rattle.graph.specs.Count.{below, one, count, Mem}
 use Rattle.graph.specs.Graph.{bits_of}
 use Rattle.graph.specs.Erasure.{erased, total}
@@ -25,9 +25,9 @@ use Rattle.exponent.specs.Neighbours.{gather, bit_in}
 use Rattle.exponent.proofs.Numbers.{block_low}
 use Rattle.exponent.proofs.Blocks.{gather_last, gather_skip}
 use Rattle.exponent.proofs.Tanner.{bits_of_check}
-use Rattle.index.specs.Index.{NextFrom, filled_at}
+use Rattle.index.specs.Index.{NextFrom, filled_at, AlongIndex}
 use Rattle.syndrome.specs.declared.scan.Scan.{Scan}
-use Rattle.syndrome.specs.Scan.{Scanned, AddedBit, AddedBlock}
+use Rattle.syndrome.specs.Scan.{Scanned, AddedBit, AddedBlock, IsWord}
 
 total_append : (w p q : List ℕ) → total w (p ++ q) ≡ total w p + total w q
 unfolding total
@@ -130,6 +130,15 @@ module _ (plan : List ℤ) (shape : Shape) (word : List ℕ) (s : Scan) where
       ∙ sym (bits_of_check plan shape.rows shape.cols shape.lift h (c / shape.lift) (c % shape.lift) (mod-lt c h))
       ∙ ap (bits_of (tanner plan shape.rows shape.cols shape.lift)) (div-add-mod' c shape.lift))
 
+-- a word that keeps its length may take the place of another
+pub ready_same : (p : Plan) (v w : List ℕ) → IsWord p v → length w ≡ length v → IsWord p w
+ready_same p v w r e = e ∙ r
+
 -- the row of a check
 pub row_low : (p : Plan) (c : ℕ) → c < p.shape.rows * p.shape.lift → c / p.shape.lift < p.shape.rows
 row_low p c h = block_low _ p.well_formed.some_lift _ _ h
+
+-- what the index along the rows says of that row
+pub next_filled : {plan : List ℤ} {shape : Shape} {along : List ℕ} {i j col : ℕ} → AlongIndex plan shape along → i < shape.rows → j < shape.cols
+    → col ≡ get_or along (i * shape.cols + j) 0 → NextFrom (filled_at plan shape i) j shape.cols col
+next_filled a h k e = subst (NextFrom _ _ _) (sym e) (a.next _ _ h k)

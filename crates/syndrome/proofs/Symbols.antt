@@ -7,10 +7,11 @@ use Rattle.std.specs.Prelude.{count_by, ◌==◌}
 use Rattle.std.proofs.lemmas.List.Recursion.{is_count_by}
 use mathlib.Core.List.{List, ◌++◌}
 use native.Mathlib.Omega.{arith}
+use lib.Seq.{take-add, take_all}
 use borrow.Author.Tests.{lt-ltb, le-ltb, ne_eqb}
 use lib.Dec.{eqb}
 use lib.ListN.{length, take, drop}
-use Rattle.std.specs.Prelude.{sum_by, ◌*◌}
+use Rattle.std.specs.Prelude.{sum_by, ◌*◌, ◌-◌}
 use Rattle.std.specs.Simd.{first_chunks}
 use Rattle.std.proofs.lemmas.List.Sums.{sum_by-cons}
 use Rattle.std.proofs.Common.{length-drop}
@@ -67,6 +68,14 @@ module _ (x : ℕ) where
 pub erasures_append : (p q : List ℕ) → erasures (p ++ q) ≡ erasures p + erasures q
 unfolding erasures
 erasures_append p q = count_append (λ x. eqb x 2) p q
+
+-- the erasures of a word's first i + j bytes are those of the first i and those of the j after them
+pub erasures_add : (i j : ℕ) (word : List ℕ) → erasures (take (i + j) word) ≡ erasures (take i word) + erasures (take j (drop i word))
+erasures_add i j word = ap erasures (take-add i j word) ∙ erasures_append (take i word) (take j (drop i word))
+
+-- those of a word are those of its first i bytes and those of the others
+pub erasures_parts : (i : ℕ) (word : List ℕ) → i ≤ length word → erasures (take i word) + erasures (take (length word - i) (drop i word)) ≡ erasures word
+erasures_parts i word h = sym (erasures_add i (length word - i) word) ∙ ap erasures (take_all (i + (length word - i)) word (omega arith))
 
 pub erasures_le : (word : List ℕ) → erasures word ≤ length word
 unfolding erasures

@@ -33,7 +33,7 @@ unmet x y e h = eqb-true x y (not-false (eqb x y) (sym (meet_same x y h) ∙ e))
 
 -- ONE LIST
 
-pair_at : (l : List ℕ) (i k : ℕ) → i < length l → k < length l → meet (get_or l i 0) (get_or l k 0) ≡ true → Pair l
+pub pair_at : (l : List ℕ) (i k : ℕ) → i < length l → k < length l → meet (get_or l i 0) (get_or l k 0) ≡ true → Pair l
 pair_at l i k h q e =
     let m = met (get_or l i 0) (get_or l k 0) e in
     record { one = get_or l i 0; other = get_or l k 0; one_in = get_or_mem l i 0 h; other_in = get_or_mem l k 0 q; same = m.0; differ = m.1 }
@@ -58,7 +58,7 @@ module _ (l : List ℕ) (rising : Rising l) (none : (k : ℕ) → k + 1 < length
       let n : i + (k - i) ≡ k = omega arith in
       subst (λ (j : ℕ). get_or l i 0 ≡ get_or l j 0) n (level (k - i) i (omega arith) (subst (λ (j : ℕ). get_or l i 0 / 1024 ≡ get_or l j 0 / 1024) (sym n) e))
 
-  no_pair : Pair l → ⊥
+  pub no_pair : Pair l → ⊥
   no_pair p =
       let (i, h, e) = mem_at p.one l p.one_in in
       let (k, q, f) = mem_at p.other l p.other_in in

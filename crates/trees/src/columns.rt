@@ -59,8 +59,9 @@ pub fn any_overfull(graph: &Graph, depth: usize, places: usize) -> bool
     requires { (0 < depth) × (depth < 16) }
     ensures { result ≡ overfull (blocks graph.now.rows.plan) depth places }
 {
+    let mut place = [0u64; 1];
     for j in 0..graph.rows.plan.shape.cols {
-        if column_tree(graph, depth, j, &mut [], places).is_none() {
+        if column_tree(graph, depth, j, &mut place, places).is_none() {
             return true;
         }
     }

@@ -93,13 +93,15 @@ fn grow(
     if limit <= at {
         return None;
     }
-    let shape = graph.rows.plan.shape;
+    // Copied, so that it need not be read again after each node that is written.
+    let here = *graph;
+    let shape = here.rows.plan.shape;
     put(work, at, node(shape, bit, left, p));
     let mut end = at + 1;
     let mut from = 0;
-    while let Some(i) = next_step(graph, bit, p, from) {
+    while let Some(i) = next_step(&here, bit, p, from) {
         from = i + 1;
-        let Some(q) = step_to(&graph.rows.plan, bit, p, i) else {
+        let Some(q) = step_to(&here.rows.plan, bit, p, i) else {
             continue;
         };
         let grown = if left == 1 {
@@ -130,9 +132,11 @@ pub fn at_bit(
     grow(graph, true, left, p, work, at, limit)
 }
 
-// Writes the nodes from a check on.
+// Writes the nodes from a check on. It stays a function of its own: inlined into the loop at a bit, its loop would test each node for the
+// last one.
+#[inline(never)]
 #[cycle(grow)]
-fn at_check(
+pub fn at_check(
     graph: &Graph,
     left: usize,
     p: Position,

@@ -39,11 +39,13 @@ fn ends(rows: &Rows, corner: Corner, p: Position, seen: &mut [u16], stamp: u16) 
     requires { AtCheck rows.now.plan.entries.now rows.now.plan.shape p × Stamped rows.now.plan seen.old }
     ensures { Ran stamp (from_check (blocks rows.now.plan) corner (from_bit (blocks rows.now.plan) corner 0) p) seen.old result seen.new }
 {
-    let shape = rows.plan.shape;
+    // Copied, so that it need not be read again after each stamp.
+    let here = *rows;
+    let shape = here.plan.shape;
     let mut from = corner.col;
-    while let Some(col) = rows.next(p.row, from) {
+    while let Some(col) = here.next(p.row, from) {
         from = col + 1;
-        let Some(q) = crate::to_column(&rows.plan, p, col) else {
+        let Some(q) = crate::to_column(&here.plan, p, col) else {
             continue;
         };
         if let Some(rest) = arrive(shape, q, seen, stamp) {
@@ -66,10 +68,11 @@ pub fn at_bit(
     requires { (0 < depth) × AtBit graph.now.rows.plan.entries.now graph.now.rows.plan.shape p × Stamped graph.now.rows.plan seen.old }
     ensures { Ran stamp (from_bit (blocks graph.now.rows.plan) corner depth p) seen.old result seen.new }
 {
+    let here = *graph;
     let mut from = corner.row;
-    while let Some(row) = graph.next_row(from, p.col) {
+    while let Some(row) = here.next_row(from, p.col) {
         from = row + 1;
-        let Some(q) = crate::to_row(&graph.rows.plan, p, row) else {
+        let Some(q) = crate::to_row(&here.rows.plan, p, row) else {
             continue;
         };
         let met = if depth == 1 {
@@ -97,11 +100,12 @@ pub fn at_check(
     requires { (0 < depth) × AtCheck graph.now.rows.plan.entries.now graph.now.rows.plan.shape p × Stamped graph.now.rows.plan seen.old }
     ensures { Ran stamp (from_check (blocks graph.now.rows.plan) corner (from_bit (blocks graph.now.rows.plan) corner depth) p) seen.old result seen.new }
 {
-    let shape = graph.rows.plan.shape;
+    let here = *graph;
+    let shape = here.rows.plan.shape;
     let mut from = corner.col;
-    while let Some(col) = graph.rows.next(p.row, from) {
+    while let Some(col) = here.rows.next(p.row, from) {
         from = col + 1;
-        let Some(q) = crate::to_column(&graph.rows.plan, p, col) else {
+        let Some(q) = crate::to_column(&here.rows.plan, p, col) else {
             continue;
         };
         if let Some(rest) = at_bit(graph, corner, depth, q, seen, stamp) {

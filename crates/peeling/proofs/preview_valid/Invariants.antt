@@ -1,0 +1,5 @@
+-- For must-fail/known_bits_dropped alone, whose loop over the copy would have to keep it as the word is. Assumes nothing.
+-- use Rattle.std.proofs.Common.{◌≡◌}
+-- use Rattle.peeling.proofs.preview_valid.Given as goal
+-- abbrev pub invariant-loop-x : goal.invariant-loop-x
+-- invariant-loop-x l = l.copy ≡ l.word
